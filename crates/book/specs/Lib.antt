@@ -1,0 +1,5 @@
+pub mod Refusals
+pub mod Blocks
+pub mod Grids
+pub mod Books
+pub mod Faults

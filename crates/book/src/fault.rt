@@ -1,0 +1,88 @@
+//! Why bytes are refused. Faults nest as the layers do: a block's fault passes up whole.
+
+use super::refusal::Layer;
+use super::refusal::Refusal;
+ghost use mathlib.Core.Path.{_≡_};
+ghost use Rattle.book.specs.Faults.{block-told, book-told};
+ghost use Rattle.book.specs.declared.fault.BookFault.the-variants.{OfBlock};
+
+/// Why a block is refused, whatever it is for.
+#[derive(Clone, Copy)]
+pub enum BlockFault {
+    /// The check that it stores differs from the one worked out.
+    Check { block: usize },
+    /// Its letter or its kind is unknown.
+    Unknown { block: usize },
+    /// Its payload is too long, or what follows the payload is not zero.
+    Padding { block: usize },
+}
+
+impl BlockFault {
+    pub fn refusal(&self) -> Refusal
+        ensures { λ r. ⌜ r ≡ block-told (now (self .entry)) ⌝ }
+    {
+        let (number, block) = match self {
+            BlockFault::Check { block } => (2, *block),
+            BlockFault::Unknown { block } => (3, *block),
+            BlockFault::Padding { block } => (4, *block),
+        };
+        Refusal {
+            number,
+            place: block as u64,
+            layer: Layer::Block,
+        }
+    }
+}
+
+/// Why some bytes are no book.
+#[derive(Clone, Copy)]
+pub enum BookFault {
+    /// The input is empty, or no whole number of blocks.
+    Length { bytes: usize },
+    /// A block is refused by itself.
+    OfBlock(BlockFault),
+    /// A block's letter is out of turn.
+    OutOfTurn { block: usize },
+    /// A block has another number or kind than expected.
+    Unexpected { block: usize },
+    /// A title has another length, or an unlawful number of tracks or columns.
+    MisshapenTitle { block: usize },
+    /// A column block has another length than due.
+    UndueColumns { block: usize },
+    /// The kind cannot read a byte.
+    Unreadable { byte: usize },
+    /// The input ends before the last column.
+    Ends { blocks: usize },
+}
+
+pub impl From<BlockFault> for BookFault as BookFaultOfBlock {
+    ghost converts = { λ f r. r ≡ OfBlock f };
+
+    fn from(fault: BlockFault) -> BookFault {
+        BookFault::OfBlock(fault)
+    }
+}
+
+impl BookFault {
+    pub fn refusal(&self) -> Refusal
+        ensures { λ r. ⌜ r ≡ book-told (now (self .entry)) ⌝ }
+    {
+        let (number, place, layer) = match self {
+            BookFault::Length { bytes } => (1, *bytes, Layer::File),
+            BookFault::OfBlock(fault) => {
+                return fault.refusal();
+            }
+            BookFault::OutOfTurn { block } => (5, *block, Layer::Book),
+            BookFault::Unexpected { block } => (6, *block, Layer::Book),
+            BookFault::MisshapenTitle { block } => (7, *block, Layer::Book),
+            BookFault::UndueColumns { block } => (8, *block, Layer::Book),
+            BookFault::Unreadable { byte } => (9, *byte, Layer::Book),
+            BookFault::Ends { blocks } => (10, *blocks, Layer::Book),
+        };
+        Refusal {
+            number,
+            place: place as u64,
+            layer,
+        }
+    }
+}

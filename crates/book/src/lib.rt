@@ -1,0 +1,12 @@
+//! Books and slips: scores and questions as bytes.
+
+mod block;
+mod fault;
+mod reader;
+mod refusal;
+mod stage;
+
+pub use fault::BlockFault;
+pub use fault::BookFault;
+pub use refusal::Layer;
+pub use refusal::Refusal;
