@@ -1,2 +1,6 @@
 pub mod Sums
 pub mod Walking
+pub mod Fields
+pub mod Rules
+pub mod Granted
+pub mod Complete

@@ -45,7 +45,7 @@ knows-opened : (t s : Shape) (read n : ℕ) (b : Bool) → t ≡ s → Knows (co
 knows-opened t s read n true e = e
 knows-opened t s read n false e = e
 
-first-title : (n : ℕ) (input : List ℕ) → n ≡ 0 → title-shape (block-at n input) ≡ title-shape input
+pub first-title : (n : ℕ) (input : List ℕ) → n ≡ 0 → title-shape (block-at n input) ≡ title-shape input
 first-title n input e =
     ap (λ m. title-shape (take 512 (drop (512 * m) input))) e
     ∙ (λ i. record { tracks = getD-take 512 input 6 0 (omega arith) i; columns = getD-take 512 input 7 0 (omega arith) i * 256 + getD-take 512 input 8 0 (omega arith) i })
