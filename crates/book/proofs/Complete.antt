@@ -65,11 +65,27 @@ module _ (s : Shape) (read : ℕ) (cells : List ℕ) (long : length cells ≡ (s
             (omega (arith, ap (λ n. n * t) e), omega (arith, h))
       ]
 
+-- the length of column blocks, and of a book
+pub length-columns : (kind w n more : ℕ) (cells : List ℕ) → w ≤ 502 → length (column-blocks kind w n more cells) ≡ 512 * more
+length-columns kind w n zero cells fits = refl
+length-columns kind w n (suc more) cells fits =
+    let p = take w cells in
+    let lb = length-block columns-letter kind n p (omega (arith, length-take w cells)) in
+    length-append (block-bytes columns-letter kind n p) (column-blocks kind w (suc n) more (drop w cells))
+    ∙ omega (arith, lb, length-columns kind w (suc n) more (drop w cells) fits)
+
+pub length-bytes : (k : Kind) (g : Grid) → length (bytes-of k g) ≡ 512 * (1 + blocks-for (g .tracks) (g .columns))
+length-bytes k g =
+    let p = g .tracks ∷ two (g .columns) in
+    let w = columns-a-block (g .tracks) * g .tracks in
+    let count = blocks-for (g .tracks) (g .columns) in
+    length-append (block-bytes title-letter (k .number) 0 p) (column-blocks (k .number) w 1 count (g .cells))
+    ∙ omega (arith, length-block title-letter (k .number) 0 p (omega arith), length-columns (k .number) w 1 count (g .cells) (columns-fit (g .tracks)))
+
 -- column blocks as they are written: none is refused, and their payloads are the columns again
 pub record Reads (k : Kind) (s : Shape) (read n more : ℕ) (cells : List ℕ) : Type 0 where
   pub none : blocks-refusal k (opened s read) n more (column-blocks (k .number) (columns-a-block (s .tracks) * s .tracks) n more cells) ≡ None
   pub again : payloads more (column-blocks (k .number) (columns-a-block (s .tracks) * s .tracks) n more cells) ≡ cells
-  pub long : length (column-blocks (k .number) (columns-a-block (s .tracks) * s .tracks) n more cells) ≡ 512 * more
 
 module _ (k : Kind) (s : Shape) (some : 1 ≤ s .tracks) (few : s .tracks ≤ 16) (kind : known (k .number) ≡ true) where
   at-end : (read : ℕ) → 0 ≡ blocks-for (s .tracks) (s .columns - read) → s .columns ≤ read
@@ -96,7 +112,6 @@ module _ (k : Kind) (s : Shape) (some : 1 ≤ s .tracks) (few : s .tracks ≤ 16
       record {
         none = unless-kept (is-full (opened s read)) _ _ (ap is-full (cond-false (ltb read (s .columns)) (Columns s read) (Full s) (le-ltb read (s .columns) l))) refl;
         again = sym (nil-from-length cells (omega (arith, long, ap (λ n. n * s .tracks) z)));
-        long = refl;
       }
   columns-read (suc more) n read cells e long all =
       let t = s .tracks in
@@ -123,7 +138,6 @@ module _ (k : Kind) (s : Shape) (some : 1 ≤ s .tracks) (few : s .tracks ≤ 16
             (λ i. then (block-refusal n (first i)) (then (turn-refusal k (stage i) n (first i)) (blocks-refusal k (after (stage i) (first i)) (suc n) more (others i))))
             ∙ then-both (block-refusal n blk) _ (block-none columns-letter (k .number) n n p fits refl kind) (then-both (columns-refusal k s read n blk) _ turn (ih .none));
         again = (λ i. payload (first i) ++ payloads more (others i)) ∙ (λ i. payload-is columns-letter (k .number) n p fits i ++ ih .again i) ∙ take-append-drop w cells;
-        long = length-append blk rest ∙ omega (arith, length-block columns-letter (k .number) n p fits, ih .long);
       }
 
 module _ (k : Kind) (g : Grid) (score : ScoreOf k g) (kind : known (k .number) ≡ true) where
@@ -141,7 +155,7 @@ module _ (k : Kind) (g : Grid) (score : ScoreOf k g) (kind : known (k .number) �
       let all : g .columns ≡ g .columns - 0 = omega arith in
       let r = columns-read k s some few kind count 1 0 (g .cells) (ap (blocks-for (g .tracks)) all) (score .shaped .whole ∙ ap (λ n. n * g .tracks) all) (score .symbols) in
       let lt = length-block title-letter (k .number) 0 p fits in
-      let len : length (bytes-of k g) ≡ 512 + 512 * count = length-append title rest ∙ omega (arith, lt, r .long) in
+      let len = length-bytes k g in
       let first : take 512 (bytes-of k g) ≡ title = take-at title rest 512 lt in
       let others : drop 512 (bytes-of k g) ≡ rest = drop-at title rest 512 lt in
       let blocks : length (bytes-of k g) / 512 ≡ suc count = omega (arith, len) in

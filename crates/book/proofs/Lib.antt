@@ -4,3 +4,5 @@ pub mod Fields
 pub mod Rules
 pub mod Granted
 pub mod Complete
+pub mod Cells
+pub mod Promises

@@ -3,3 +3,4 @@ pub mod Blocks
 pub mod Grids
 pub mod Books
 pub mod Faults
+pub mod Reading

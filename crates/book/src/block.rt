@@ -46,7 +46,7 @@ fn is_padded(bytes: &[u8]) -> bool
     ensures { λ r. ⌜ r ≡ padded (now (bytes .entry)) ⌝ }
 {
     let len = two_bytes(bytes, 4);
-    len <= 502 && is_blank(&bytes[6 + len..508])
+    len <= 502 && is_blank(&bytes[6 + len as usize..508])
 }
 
 /// The sum of each of the first 508 bytes times its position counted from 1.
@@ -77,11 +77,11 @@ fn stored_check(bytes: &[u8]) -> u32
 }
 
 /// The number that two bytes write, the high byte first.
-pub(crate) fn two_bytes(bytes: &[u8], at: usize) -> usize
+pub(crate) fn two_bytes(bytes: &[u8], at: usize) -> u16
     requires { ⌜ at + 1 < length (now bytes) ⌝ }
     ensures { λ r. ⌜ r ≡ getD (now (bytes .entry)) at 0 * 256 + getD (now (bytes .entry)) (at + 1) 0 ⌝ }
 {
-    bytes[at] as usize * 256 + bytes[at + 1] as usize
+    bytes[at] as u16 * 256 + bytes[at + 1] as u16
 }
 
 fn letter_of(b: u8) -> Option<Letter>

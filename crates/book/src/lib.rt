@@ -5,8 +5,10 @@ mod fault;
 mod reader;
 mod refusal;
 mod stage;
+mod view;
 
 pub use fault::BlockFault;
 pub use fault::BookFault;
 pub use refusal::Layer;
 pub use refusal::Refusal;
+pub use view::Book;

@@ -20,7 +20,7 @@ ghost use Rattle.book.specs.declared.stage.Stage.the-variants.{Full};
 ghost use Rattle.book.specs.Refusals.{then};
 
 /// Checks a whole book, block by block, and tells its shape.
-fn read_shape<S: Symbol>(input: &[u8]) -> Result<Shape, BookFault>
+pub(crate) fn read_shape<S: Symbol>(input: &[u8]) -> Result<Shape, BookFault>
     ensures { λ r. ⌜ Cases r (λ s. (book-refusal kind (now (input .entry)) ≡ None) × (s ≡ title-shape (now (input .entry)))) (λ f. book-refusal kind (now (input .entry)) ≡ Some (book-told f)) ⌝ }
 {
     let blocks = count_blocks(input)?;

@@ -18,15 +18,15 @@ ghost use Rattle.book.specs.Faults.{letter-byte, book-told};
 /// The tracks and columns of a score, as its title tells them.
 #[derive(Clone, Copy)]
 pub struct Shape {
-    pub tracks: usize,
-    pub columns: usize,
+    pub tracks: u8,
+    pub columns: u16,
 }
 
 /// What the reader waits for: a title, or columns, of which some are read; or it is full.
 #[derive(Clone, Copy)]
 pub enum Stage {
     Title,
-    Columns { shape: Shape, read: usize },
+    Columns { shape: Shape, read: u16 },
     Full(Shape),
 }
 
@@ -50,7 +50,7 @@ impl Stage {
 
 impl Shape {
     /// The stage where so many columns are read.
-    fn opened(self, read: usize) -> Stage
+    fn opened(self, read: u16) -> Stage
         ensures { λ r. ⌜ r ≡ opened self read ⌝ }
     {
         if read < self.columns {
@@ -61,12 +61,12 @@ impl Shape {
     }
 
     /// The columns due in the next block, where so many are read.
-    pub(crate) fn due(self, read: usize) -> usize
+    pub(crate) fn due(self, read: u16) -> u16
         requires { ⌜ 1 ≤ self .tracks ⌝ }
         requires { ⌜ read ≤ self .columns ⌝ }
         ensures { λ r. ⌜ r ≡ due self read ⌝ }
     {
-        (502 / self.tracks).min(self.columns - read)
+        (502 / u16::from(self.tracks)).min(self.columns - read)
     }
 
     fn is_lawful(self) -> bool
@@ -81,7 +81,7 @@ pub(crate) fn is_expected<S: Symbol>(block: usize, bytes: &[u8]) -> bool
     requires { ⌜ length (now bytes) ≡ 512 ⌝ }
     ensures { λ r. ⌜ r ≡ expected kind block (now (bytes .entry)) ⌝ }
 {
-    two_bytes(bytes, 2) == block && bytes[1] == S::number()
+    two_bytes(bytes, 2) as usize == block && bytes[1] == S::number()
 }
 
 /// Whether the kind reads a byte.
@@ -115,7 +115,7 @@ fn title<S: Symbol>(block: usize, bytes: &[u8]) -> Result<Stage, BookFault>
         return Err(BookFault::Unexpected { block });
     }
     let shape = Shape {
-        tracks: bytes[6] as usize,
+        tracks: bytes[6],
         columns: two_bytes(bytes, 7),
     };
     if two_bytes(bytes, 4) != 3 || !shape.is_lawful() {
@@ -124,7 +124,7 @@ fn title<S: Symbol>(block: usize, bytes: &[u8]) -> Result<Stage, BookFault>
     Ok(shape.opened(0))
 }
 
-fn columns<S: Symbol>(shape: Shape, read: usize, block: usize, bytes: &[u8]) -> Result<Stage, BookFault>
+fn columns<S: Symbol>(shape: Shape, read: u16, block: usize, bytes: &[u8]) -> Result<Stage, BookFault>
     requires { ⌜ 1 ≤ shape .tracks ⌝ ∗ ⌜ shape .tracks ≤ 16 ⌝ ∗ ⌜ shape .columns ≤ 4096 ⌝ ∗ ⌜ read < shape .columns ⌝ }
     requires { ⌜ block < 2 ^ 55 ⌝ }
     requires { ⌜ length (now bytes) ≡ 512 ⌝ }
@@ -137,11 +137,11 @@ fn columns<S: Symbol>(shape: Shape, read: usize, block: usize, bytes: &[u8]) -> 
     }
     let due = shape.due(read);
     let len = two_bytes(bytes, 4);
-    if len != due * shape.tracks {
+    if len != due * u16::from(shape.tracks) {
         return Err(BookFault::UndueColumns { block });
     }
-    let front = readable_front::<S>(&bytes[6..6 + len]);
-    if front < len {
+    let front = readable_front::<S>(&bytes[6..6 + len as usize]);
+    if front < len as usize {
         return Err(BookFault::Unreadable { byte: 512 * block + 6 + front });
     }
     Ok(shape.opened(read + due))
