@@ -65,6 +65,7 @@ regroup a b c = mul-assoc a b c ∙ ap (λ n. a * n) (mul-comm b c) ∙ sym (mul
 -- the byte of a place in the bytes of a score
 module _ (k : Kind) (g : Grid) (shaped : Shaped g) (column track : ℕ) (c1 : 1 ≤ column) (c2 : column ≤ g .columns) (t1 : 1 ≤ track) (t2 : track ≤ g .tracks) where
   pub place-read : (byte-place (g .tracks) column track < length (bytes-of k g)) × (getD (bytes-of k g) (byte-place (g .tracks) column track) 0 ≡ getD (g .cells) (cell-number (g .tracks) column track) 0)
+  unfolding bytes-of
   place-read =
       let t = g .tracks in
       let per = columns-a-block t in

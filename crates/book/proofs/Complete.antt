@@ -75,6 +75,7 @@ length-columns kind w n (suc more) cells fits =
     ∙ omega (arith, lb, length-columns kind w (suc n) more (drop w cells) fits)
 
 pub length-bytes : (k : Kind) (g : Grid) → length (bytes-of k g) ≡ 512 * (1 + blocks-for (g .tracks) (g .columns))
+unfolding bytes-of
 length-bytes k g =
     let p = g .tracks ∷ two (g .columns) in
     let w = columns-a-block (g .tracks) * g .tracks in
@@ -142,6 +143,7 @@ module _ (k : Kind) (s : Shape) (some : 1 ≤ s .tracks) (few : s .tracks ≤ 16
 
 module _ (k : Kind) (g : Grid) (score : ScoreOf k g) (kind : known (k .number) ≡ true) where
   pub book-reads : (book-refusal k (bytes-of k g) ≡ None) × (held (bytes-of k g) ≡ g)
+  unfolding bytes-of
   book-reads =
       let s : Shape = record { tracks = g .tracks; columns = g .columns } in
       let some = score .shaped .some-track in

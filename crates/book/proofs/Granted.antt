@@ -151,6 +151,7 @@ title-payload b l bytes e =
     ∙ ap (λ r. getD b 6 0 ∷ r) (sym (two-of (getD b 7 0) (getD b 8 0) (title-shape b .columns) (bytes 8) refl))
 
 pub book-written : (k : Kind) (input : List ℕ) → Bytes input → book-refusal k input ≡ None → (known (k .number) ≡ true) × ScoreOf k (held input) × (input ≡ bytes-of k (held input))
+unfolding bytes-of
 book-written k input bytes e =
     let w = unless-none (whole-blocks (length input)) _ _ e in
     let w2 = and-parts (leb 1 (length input)) (eqb (length input % 512) 0) (w .0) in

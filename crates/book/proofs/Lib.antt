@@ -6,3 +6,4 @@ pub mod Granted
 pub mod Complete
 pub mod Cells
 pub mod Promises
+pub mod Blocking

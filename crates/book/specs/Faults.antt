@@ -6,7 +6,8 @@ use Rattle.book.specs.declared.fault.BlockFault.{BlockFault}
 use Rattle.book.specs.declared.fault.BlockFault.the-variants.{Check, Unknown, Padding}
 use Rattle.book.specs.declared.fault.BookFault.{BookFault}
 use Rattle.book.specs.declared.fault.BookFault.the-variants.{Length, OfBlock, OutOfTurn, Unexpected, MisshapenTitle, UndueColumns, Unreadable, Ends}
-use Rattle.book.specs.declared.refusal.Layer.the-variants.{File, Block, Book}
+use Rattle.book.specs.declared.fault.TooShort.{TooShort}
+use Rattle.book.specs.declared.refusal.Layer.the-variants.{File, Block, Book, Writing}
 use Rattle.book.specs.declared.refusal.Refusal.{Refusal}
 use Rattle.book.specs.Refusals.{refusal}
 use Rattle.book.specs.Blocks.{title-letter, columns-letter, slip-letter}
@@ -30,3 +31,6 @@ book-told (MisshapenTitle n) = refusal 7 n Book
 book-told (UndueColumns n) = refusal 8 n Book
 book-told (Unreadable n) = refusal 9 n Book
 book-told (Ends n) = refusal 10 n Book
+
+abbrev pub short-told : TooShort → Refusal
+short-told f = refusal 23 (f .needed) Writing

@@ -4,3 +4,4 @@ pub mod Grids
 pub mod Books
 pub mod Faults
 pub mod Reading
+pub mod Writing

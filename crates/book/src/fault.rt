@@ -3,7 +3,7 @@
 use super::refusal::Layer;
 use super::refusal::Refusal;
 ghost use mathlib.Core.Path.{_≡_};
-ghost use Rattle.book.specs.Faults.{block-told, book-told};
+ghost use Rattle.book.specs.Faults.{block-told, book-told, short-told};
 ghost use Rattle.book.specs.declared.fault.BookFault.the-variants.{OfBlock};
 
 /// Why a block is refused, whatever it is for.
@@ -83,6 +83,24 @@ impl BookFault {
             number,
             place: place as u64,
             layer,
+        }
+    }
+}
+
+/// An output is too short for what is to be written.
+#[derive(Clone, Copy)]
+pub struct TooShort {
+    pub needed: usize,
+}
+
+impl TooShort {
+    pub fn refusal(&self) -> Refusal
+        ensures { λ r. ⌜ r ≡ short-told (now (self .entry)) ⌝ }
+    {
+        Refusal {
+            number: 23,
+            place: self.needed as u64,
+            layer: Layer::Writing,
         }
     }
 }

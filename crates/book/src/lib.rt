@@ -2,13 +2,18 @@
 
 mod block;
 mod fault;
+mod grid;
 mod reader;
 mod refusal;
+mod sealing;
 mod stage;
 mod view;
+mod writer;
 
 pub use fault::BlockFault;
 pub use fault::BookFault;
+pub use fault::TooShort;
+pub use grid::Grid;
 pub use refusal::Layer;
 pub use refusal::Refusal;
 pub use view::Book;
