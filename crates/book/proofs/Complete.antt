@@ -36,7 +36,7 @@ block-none l kind n m p fits a k =
     (unless-kept (known-letter l && known kind) _ _ (and-from (known-letter l) (known kind) a k)
     (unless-kept (padded (block-bytes l kind n p)) _ _ (padded-is l kind n p fits) refl))
 
-expected-is : (k : Kind) (l n : ℕ) (p : List ℕ) → length p ≤ 502 → expected k n (block-bytes l (k .number) n p) ≡ true
+pub expected-is : (k : Kind) (l n : ℕ) (p : List ℕ) → length p ≤ 502 → expected k n (block-bytes l (k .number) n p) ≡ true
 expected-is k l n p fits = and-from (eqb (number (block-bytes l (k .number) n p)) n) (eqb (k .number) (k .number)) (eq-eqb (number (block-bytes l (k .number) n p)) n (number-is l (k .number) n p fits)) (eq-eqb (k .number) (k .number) refl)
 
 -- the columns of a block fit into it

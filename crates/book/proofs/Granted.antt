@@ -36,7 +36,7 @@ block-kept n b e =
     let r = unless-none (padded b) _ _ (q .1) in
     (p .0, and-parts (known-letter (letter b)) (known (kind-number b)) (q .0) .1, r .0)
 
-expected-kept : (k : Kind) (n : ℕ) (b : List ℕ) → expected k n b ≡ true → (number b ≡ n) × (kind-number b ≡ k .number)
+pub expected-kept : (k : Kind) (n : ℕ) (b : List ℕ) → expected k n b ≡ true → (number b ≡ n) × (kind-number b ≡ k .number)
 expected-kept k n b e = let p = and-parts (eqb (number b) n) (eqb (kind-number b) (k .number)) e in (eqb-true (number b) n (p .0), eqb-true (kind-number b) (k .number) (p .1))
 
 -- a cut after p, where p is w long, or is the last and shorter

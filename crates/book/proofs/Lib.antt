@@ -7,3 +7,4 @@ pub mod Complete
 pub mod Cells
 pub mod Promises
 pub mod Blocking
+pub mod Asking

@@ -76,3 +76,11 @@ times-more x p h l =
 
 pub times-none : (p : ℕ) → 0 < p → (0 + (p - 1)) / p ≡ 0
 times-none p l = ap (λ n. n / p) (let e : 0 + (p - 1) ≡ 0 * p + (p - 1) = omega arith in e) ∙ div-mul-add 0 p (p - 1) (omega arith)
+
+-- past a rule that is kept
+pub unless-past : (kept : Bool) (r : Refusal) (others : Option Refusal) → kept ≡ true → unless kept r others ≡ others
+unless-past kept r others h = cond-true kept others (Some r) h
+
+pub then-past : (a b : Option Refusal) → a ≡ None → then a b ≡ b
+then-past None b e = refl
+then-past (Some r) b e = let z : _≡_ {A = ℕ} 0 1 = cc in absurd (omega arith)

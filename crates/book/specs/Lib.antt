@@ -5,3 +5,5 @@ pub mod Books
 pub mod Faults
 pub mod Reading
 pub mod Writing
+pub mod Slips
+pub mod SlipReading
