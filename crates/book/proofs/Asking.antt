@@ -54,10 +54,12 @@ asked-payload b len bytes e few =
       (drop-more b 9 0 (omega arith) ∙ ap (λ r. getD b 9 0 ∷ r) (drop-more b 10 0 (omega arith)))))) i))
     ∙ (λ i. sym (two-of (getD b 6 0) (getD b 7 0) (asked b .limit) (bytes 7) refl) i ++ (getD b 8 0 ∷ getD b 9 0 ∷ sym lq i ∷ q))
 
-notes-kept : (limit mode price notes : ℕ) → in-range limit mode price notes ≡ true → notes ≤ 64
-notes-kept limit mode price notes e =
+pub ranges : (limit mode price notes : ℕ) → in-range limit mode price notes ≡ true → (limit ≤ 4095) × (mode ≤ 1) × (price ≤ 2) × (notes ≤ 64)
+ranges limit mode price notes e =
     let p = and-parts (leb limit 4095 && leb mode 1 && (leb 1 price && leb price 2)) (leb 1 notes && leb notes 64) e in
-    leb-true notes 64 (and-parts (leb 1 notes) (leb notes 64) (p .1) .1)
+    let q = and-parts (leb limit 4095 && leb mode 1) (leb 1 price && leb price 2) (p .0) in
+    let r = and-parts (leb limit 4095) (leb mode 1) (q .0) in
+    (leb-true limit 4095 (r .0), leb-true mode 1 (r .1), leb-true price 2 (and-parts (leb 1 price) (leb price 2) (q .1) .1), leb-true notes 64 (and-parts (leb 1 notes) (leb notes 64) (p .1) .1))
 
 pub slip-granted : (k : Kind) (b : List ℕ) → Bytes b → slip-refusal k b ≡ None → (known (k .number) ≡ true) × QuestionOf k (asked b) × (b ≡ slip-bytes k (asked b))
 unfolding slip-bytes
@@ -71,7 +73,7 @@ slip-granted k b bytes e =
     let own = block-kept 0 b (e1 .0) in
     let here = expected-kept k 0 b (e3 .0) in
     let fields = and-parts (eqb (payload-length b) (5 + getD b 10 0)) (in-range (asked b .limit) (asked b .mode) (asked b .price) (getD b 10 0)) (e4 .0) in
-    let few = notes-kept (asked b .limit) (asked b .mode) (asked b .price) (getD b 10 0) (fields .1) in
+    let few = ranges (asked b .limit) (asked b .mode) (asked b .price) (getD b 10 0) (fields .1) .3 in
     let lq : length (asked b .query) ≡ getD b 10 0 = length-take-le (getD b 10 0) (drop 11 b) (omega (arith, length-drop 11 b)) in
     ( subst (λ n. known n ≡ true) (here .1) (own .1),
       record {
@@ -83,7 +85,7 @@ slip-granted k b bytes e =
 
 module _ (k : Kind) (q : Question) (lawful : QuestionOf k q) where
   few : length (q .query) ≤ 64
-  few = notes-kept (q .limit) (q .mode) (q .price) (length (q .query)) (lawful .fields)
+  few = ranges (q .limit) (q .mode) (q .price) (length (q .query)) (lawful .fields) .3
 
   fits : length (slip-payload q) ≤ 502
   fits = omega (arith, few)
@@ -133,6 +135,15 @@ module _ {S : Type 0} (k : Kind) (input : List ℕ) where
         granted = tt;
         every = λ q known-kind lawful e. let none = asked-again k input q known-kind lawful e .0 in let z : _≡_ {A = ℕ} 0 1 = cc in absurd (omega arith);
       }
+
+-- a slip is one block
+pub length-slip : (k : Kind) (q : Question) → length (q .query) ≤ 64 → length (slip-bytes k q) ≡ 512
+unfolding slip-bytes
+length-slip k q few = length-block slip-letter (k .number) 0 (slip-payload q) (omega arith)
+
+pub slip-is : (k : Kind) (q : Question) → block-bytes slip-letter (k .number) 0 (slip-payload q) ≡ slip-bytes k q
+unfolding slip-bytes
+slip-is k q = refl
 
 -- a part of the input that ends n bytes on is so many bytes
 pub notes-part : (b : List ℕ) (n m : ℕ) → n ≡ m → take (11 + n - 11) (drop 11 b) ≡ take m (drop 11 b)

@@ -1,7 +1,7 @@
 -- Slips: one question as one block. Their bytes, and which bytes are refused.
 use mathlib.Core.Path.{_≡_}
 use mathlib.Core.Bool.{Bool, true, _&&_}
-use mathlib.Core.List.{List, _∷_, _++_}
+use mathlib.Core.List.{List, _∷_, _++_, map}
 use Prim.Native.Nat.{ℕ, _+_, _*_}
 use lib.Dec.{T, eqb, leb}
 use lib.ListN.{length, getD, take, drop}
@@ -20,6 +20,10 @@ pub record Question : Type 0 where
   pub mode : ℕ
   pub price : ℕ
   pub query : List ℕ
+
+-- the question that plain numbers and symbols pose
+abbrev pub posed : {S : Type 0} → (S → ℕ) → ℕ → ℕ → ℕ → List S → Question
+posed byte limit mode price query = record { limit = limit; mode = mode; price = price; query = map byte query }
 
 -- limit 0 to 4,095, mode 0 or 1, price 1 or 2, a query of 1 to 64 notes
 abbrev pub in-range : ℕ → ℕ → ℕ → ℕ → Bool

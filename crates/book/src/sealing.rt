@@ -9,7 +9,7 @@ ghost use lib.ListN.{length, take, drop, set, replicate};
 ghost use Rattle.book.specs.Blocks.{two, four, weighted, block-bytes, columns-letter};
 
 /// Writes a number in two bytes, the high byte first.
-fn put_two(out: &mut [u8], at: usize, n: u16)
+pub(crate) fn put_two(out: &mut [u8], at: usize, n: u16)
     requires { ⌜ at + 1 < length (now out) ⌝ }
     ensures { λ _. ⌜ now (out .exit) ≡ set (set (now (out .entry)) at (n / 256)) (at + 1) (n % 256) ⌝ }
 {
