@@ -48,10 +48,10 @@ asked-payload b len bytes e few =
     let lq : length q ≡ m = length-take-le m (drop 11 b) (omega (arith, length-drop 11 b)) in
     let five : payload-length b ≡ suc (suc (suc (suc (suc m)))) = omega arith in
     (λ i. take (five i)
-      ((drop-more b 6 0 (omega arith) ∙ ap (λ r. getD b 6 0 ∷ r)
-      (drop-more b 7 0 (omega arith) ∙ ap (λ r. getD b 7 0 ∷ r)
-      (drop-more b 8 0 (omega arith) ∙ ap (λ r. getD b 8 0 ∷ r)
-      (drop-more b 9 0 (omega arith) ∙ ap (λ r. getD b 9 0 ∷ r) (drop-more b 10 0 (omega arith)))))) i))
+    ((drop-more b 6 0 (omega arith) ∙ ap (λ r. getD b 6 0 ∷ r)
+    (drop-more b 7 0 (omega arith) ∙ ap (λ r. getD b 7 0 ∷ r)
+    (drop-more b 8 0 (omega arith) ∙ ap (λ r. getD b 8 0 ∷ r)
+    (drop-more b 9 0 (omega arith) ∙ ap (λ r. getD b 9 0 ∷ r) (drop-more b 10 0 (omega arith)))))) i))
     ∙ (λ i. sym (two-of (getD b 6 0) (getD b 7 0) (asked b .limit) (bytes 7) refl) i ++ (getD b 8 0 ∷ getD b 9 0 ∷ sym lq i ∷ q))
 
 pub ranges : (limit mode price notes : ℕ) → in-range limit mode price notes ≡ true → (limit ≤ 4095) × (mode ≤ 1) × (price ≤ 2) × (notes ≤ 64)
@@ -74,14 +74,15 @@ slip-granted k b bytes e =
     let here = expected-kept k 0 b (e3 .0) in
     let fields = and-parts (eqb (payload-length b) (5 + getD b 10 0)) (in-range (asked b .limit) (asked b .mode) (asked b .price) (getD b 10 0)) (e4 .0) in
     let few = ranges (asked b .limit) (asked b .mode) (asked b .price) (getD b 10 0) (fields .1) .3 in
-    let lq : length (asked b .query) ≡ getD b 10 0 = length-take-le (getD b 10 0) (drop 11 b) (omega (arith, length-drop 11 b)) in
-    ( subst (λ n. known n ≡ true) (here .1) (own .1),
+    let lq : length (asked b .query) ≡ getD b 10 0 = length-take-le (getD b 10 0) (drop 11 b) (omega (arith, length-drop 11 b)) in (
+      subst (λ n. known n ≡ true) (here .1) (own .1),
       record {
         fields = ap (in-range (asked b .limit) (asked b .mode) (asked b .price)) lq ∙ fields .1;
         symbols = symbols-read k OfSlip 11 (asked b .query) (e4 .1);
       },
       bytes-of-fields b len bytes (own .2) (own .0)
-      ∙ (λ i. block-bytes (eqb-true (letter b) slip-letter (e2 .0) i) (here .1 i) (here .0 i) (asked-payload b len bytes (eqb-true (payload-length b) (5 + getD b 10 0) (fields .0)) few i)) )
+          ∙ (λ i. block-bytes (eqb-true (letter b) slip-letter (e2 .0) i) (here .1 i) (here .0 i) (asked-payload b len bytes (eqb-true (payload-length b) (5 + getD b 10 0) (fields .0)) few i)),
+    )
 
 module _ (k : Kind) (q : Question) (lawful : QuestionOf k q) where
   few : length (q .query) ≤ 64
@@ -95,8 +96,8 @@ module _ (k : Kind) (q : Question) (lawful : QuestionOf k q) where
       let b = block-bytes slip-letter (k .number) 0 (slip-payload q) in
       let e : q .limit / 256 * 256 + q .limit % 256 ≡ q .limit = omega arith in
       let f : take (length (q .query)) (drop 11 b) ≡ q .query =
-        ap (take (length (q .query))) (append-assoc (q .query) (replicate (502 - length (slip-payload q)) 0) (four (weighted 1 (body slip-letter (k .number) 0 (slip-payload q)))))
-        ∙ take-at (q .query) (replicate (502 - length (slip-payload q)) 0 ++ four (weighted 1 (body slip-letter (k .number) 0 (slip-payload q)))) (length (q .query)) refl in
+      ap (take (length (q .query))) (append-assoc (q .query) (replicate (502 - length (slip-payload q)) 0) (four (weighted 1 (body slip-letter (k .number) 0 (slip-payload q)))))
+      ∙ take-at (q .query) (replicate (502 - length (slip-payload q)) 0 ++ four (weighted 1 (body slip-letter (k .number) 0 (slip-payload q)))) (length (q .query)) refl in
       (λ i. record { limit = e i; mode = q .mode; price = q .price; query = f i })
 
   pub slip-reads : known (k .number) ≡ true → (slip-refusal k (slip-bytes k q) ≡ None) × (asked (slip-bytes k q) ≡ q)
@@ -106,11 +107,12 @@ module _ (k : Kind) (q : Question) (lawful : QuestionOf k q) where
       let b = block-bytes slip-letter (k .number) 0 p in
       let long : payload-length b ≡ 5 + length (q .query) = payload-length-is slip-letter (k .number) 0 p fits ∙ omega arith in
       let fields : slip-fields b ≡ true =
-        and-from (eqb (payload-length b) (5 + length (q .query))) (in-range (asked b .limit) (q .mode) (q .price) (length (q .query))) (eq-eqb (payload-length b) (5 + length (q .query)) long)
-        (ap (λ x. in-range (x .limit) (q .mode) (q .price) (length (q .query))) asked-is ∙ lawful .fields) in
-      ( slip-symbols k b (length-block slip-letter (k .number) 0 p fits) (block-none slip-letter (k .number) 0 0 p fits refl kind) refl (expected-is k slip-letter 0 p fits) fields
-        ∙ symbols-none k OfSlip 11 (asked b .query) (subst (λ x. All (λ y. T (readable k y)) (x .query)) (sym asked-is) (lawful .symbols)),
-        asked-is )
+      and-from (eqb (payload-length b) (5 + length (q .query))) (in-range (asked b .limit) (q .mode) (q .price) (length (q .query))) (eq-eqb (payload-length b) (5 + length (q .query)) long)
+      (ap (λ x. in-range (x .limit) (q .mode) (q .price) (length (q .query))) asked-is ∙ lawful .fields) in (
+        slip-symbols k b (length-block slip-letter (k .number) 0 p fits) (block-none slip-letter (k .number) 0 0 p fits refl kind) refl (expected-is k slip-letter 0 p fits) fields
+            ∙ symbols-none k OfSlip 11 (asked b .query) (subst (λ x. All (λ y. T (readable k y)) (x .query)) (sym asked-is) (lawful .symbols)),
+        asked-is,
+      )
 
 -- the bytes of a question of a known kind ask that question
 asked-again : (k : Kind) (input : List ℕ) (q : Question) → T (known (k .number)) → QuestionOf k q → input ≡ slip-bytes k q → (slip-refusal k input ≡ None) × (asked input ≡ q)

@@ -69,16 +69,16 @@ block-more kind w m k cells d o blk room fits ek eo eb =
     let x = putMid a k o blk in
     let before : take a o ≡ front = ap (take a) eo ∙ take-at front (drop (512 * (1 + m)) d) a lf in
     let behind : drop n o ≡ drop n d =
-      ap (drop n) eo ∙ ap (λ i. drop i (front ++ drop (512 * (1 + m)) d)) (let e : n ≡ a + 512 = omega arith in e)
-      ∙ sym (drop-drop 512 a (front ++ drop (512 * (1 + m)) d))
-      ∙ ap (drop 512) (drop-at front (drop (512 * (1 + m)) d) a lf)
-      ∙ drop-drop 512 (512 * (1 + m)) d
-      ∙ ap (λ i. drop i d) (let e : 512 * (1 + m) + 512 ≡ n = omega arith in e) in
+    ap (drop n) eo ∙ ap (λ i. drop i (front ++ drop (512 * (1 + m)) d)) (let e : n ≡ a + 512 = omega arith in e)
+    ∙ sym (drop-drop 512 a (front ++ drop (512 * (1 + m)) d))
+    ∙ ap (drop 512) (drop-at front (drop (512 * (1 + m)) d) a lf)
+    ∙ drop-drop 512 (512 * (1 + m)) d
+    ∙ ap (λ i. drop i d) (let e : 512 * (1 + m) + 512 ≡ n = omega arith in e) in
     let one : 1 + m ≡ m + 1 = omega arith in
     let block : cb ++ blk ≡ column-blocks kind w 1 (m + 1) cells =
-      ap (λ b. cb ++ b) (eb ∙ (λ i. block-bytes columns-letter kind (sym one i) (take w (drop (m * w) cells))))
-      ∙ sym (columns-more kind w 1 m cells)
-      ∙ ap (λ i. column-blocks kind w 1 i cells) (let e : suc m ≡ m + 1 = omega arith in e) in
+    ap (λ b. cb ++ b) (eb ∙ (λ i. block-bytes columns-letter kind (sym one i) (take w (drop (m * w) cells))))
+    ∙ sym (columns-more kind w 1 m cells)
+    ∙ ap (λ i. column-blocks kind w 1 i cells) (let e : suc m ≡ m + 1 = omega arith in e) in
     sym (take-append-drop n x)
     ∙ (λ i. take-putMid a k o blk n (omega arith) (omega arith) i ++ drop-putMid a k o blk n (omega arith) (omega arith) (lb ∙ sym ek) i)
     ∙ (λ i. before i ++ blk ++ behind i)

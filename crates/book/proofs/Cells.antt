@@ -86,9 +86,10 @@ module _ (k : Kind) (g : Grid) (shaped : Shaped g) (column track : ℕ) (c1 : 1 
       let room : length (g .cells) ≤ w * count = omega (arith, shaped .whole, mul-le (g .columns) t (per * count) t (covered (g .columns) per some) (omega arith), regroup per count t) in
       let deep : q < count = div-below j w count wide (omega (arith, mul-comm w count)) in
       let at : byte-place t column track - 512 ≡ 512 * q + 6 + r = omega arith in
-      let lt = length-block title-letter (k .number) 0 p (omega arith) in
-      ( omega (arith, length-bytes k g),
+      let lt = length-block title-letter (k .number) 0 p (omega arith) in (
+        omega (arith, length-bytes k g),
         getD-append-right title rest 512 (byte-place t column track) 0 lt (omega arith)
-        ∙ ap (λ m. getD rest m 0) at
-        ∙ column-cell (k .number) w fits count 1 (g .cells) q r room rw′ (omega arith)
-        ∙ ap (λ m. getD (g .cells) m 0) split )
+            ∙ ap (λ m. getD rest m 0) at
+            ∙ column-cell (k .number) w fits count 1 (g .cells) q r room rw′ (omega arith)
+            ∙ ap (λ m. getD (g .cells) m 0) split,
+      )

@@ -131,9 +131,9 @@ module _ (k : Kind) (s : Shape) (some : 1 ≤ s .tracks) (few : s .tracks ≤ 16
       let others : drop 512 (blk ++ rest) ≡ rest = drop-at blk rest 512 (length-block columns-letter (k .number) n p fits) in
       let stage : opened s read ≡ Columns s read = cond-true (ltb read (s .columns)) (Columns s read) (Full s) (lt-ltb read (s .columns) l) in
       let turn : columns-refusal k s read n blk ≡ None =
-        unless-kept (expected k n blk) _ _ (expected-is k columns-letter n p fits)
-        (unless-kept (eqb (payload-length blk) (due s read * t)) _ _ (eq-eqb (payload-length blk) (due s read * t) (payload-length-is columns-letter (k .number) n p fits ∙ tk .0))
-        (symbols-none k Book (512 * n + 6) (payload blk) (subst (All (λ x. T (readable k x))) (sym (payload-is columns-letter (k .number) n p fits)) (all-take (λ x. T (readable k x)) w cells all)))) in
+      unless-kept (expected k n blk) _ _ (expected-is k columns-letter n p fits)
+      (unless-kept (eqb (payload-length blk) (due s read * t)) _ _ (eq-eqb (payload-length blk) (due s read * t) (payload-length-is columns-letter (k .number) n p fits ∙ tk .0))
+      (symbols-none k Book (512 * n + 6) (payload blk) (subst (All (λ x. T (readable k x))) (sym (payload-is columns-letter (k .number) n p fits)) (all-take (λ x. T (readable k x)) w cells all)))) in
       record {
         none =
             (λ i. then (block-refusal n (first i)) (then (turn-refusal k (stage i) n (first i)) (blocks-refusal k (after (stage i) (first i)) (suc n) more (others i))))
@@ -163,17 +163,18 @@ module _ (k : Kind) (g : Grid) (score : ScoreOf k g) (kind : known (k .number) �
       let blocks : length (bytes-of k g) / 512 ≡ suc count = omega (arith, len) in
       let shape : title-shape title ≡ s = (λ i. record { tracks = g .tracks; columns = (let e : g .columns / 256 * 256 + g .columns % 256 ≡ g .columns = omega arith in e) i }) in
       let lawful : in-shape (title-shape title) ≡ true =
-        ap in-shape shape
-        ∙ and-from (leb 1 (g .tracks) && leb (g .tracks) 16) (leb (g .columns) 4096) (and-from (leb 1 (g .tracks)) (leb (g .tracks) 16) (le-leb 1 (g .tracks) some) (le-leb (g .tracks) 16 few)) (le-leb (g .columns) 4096 (score .shaped .few-columns)) in
+      ap in-shape shape
+      ∙ and-from (leb 1 (g .tracks) && leb (g .tracks) 16) (leb (g .columns) 4096) (and-from (leb 1 (g .tracks)) (leb (g .tracks) 16) (le-leb 1 (g .tracks) some) (le-leb (g .tracks) 16 few)) (le-leb (g .columns) 4096 (score .shaped .few-columns)) in
       let turn : title-refusal k 0 title ≡ None =
-        unless-kept (expected k 0 title) _ _ (expected-is k title-letter 0 p fits)
-        (unless-kept (eqb (payload-length title) 3 && in-shape (title-shape title)) _ _ (and-from (eqb (payload-length title) 3) (in-shape (title-shape title)) (eq-eqb (payload-length title) 3 (payload-length-is title-letter (k .number) 0 p fits)) lawful) refl) in
+      unless-kept (expected k 0 title) _ _ (expected-is k title-letter 0 p fits)
+      (unless-kept (eqb (payload-length title) 3 && in-shape (title-shape title)) _ _ (and-from (eqb (payload-length title) 3) (in-shape (title-shape title)) (eq-eqb (payload-length title) 3 (payload-length-is title-letter (k .number) 0 p fits)) lawful) refl) in
       let walk : blocks-refusal k Title 0 (suc count) (bytes-of k g) ≡ None =
-        (λ i. then (block-refusal 0 (first i)) (then (title-refusal k 0 (first i)) (blocks-refusal k (opened (title-shape (first i)) 0) 1 count (others i))))
-        ∙ then-both (block-refusal 0 title) _ (block-none title-letter (k .number) 0 0 p fits refl kind) (then-both (title-refusal k 0 title) _ turn (ap (λ x. blocks-refusal k (opened x 0) 1 count rest) shape ∙ r .none)) in
+      (λ i. then (block-refusal 0 (first i)) (then (title-refusal k 0 (first i)) (blocks-refusal k (opened (title-shape (first i)) 0) 1 count (others i))))
+      ∙ then-both (block-refusal 0 title) _ (block-none title-letter (k .number) 0 0 p fits refl kind) (then-both (title-refusal k 0 title) _ turn (ap (λ x. blocks-refusal k (opened x 0) 1 count rest) shape ∙ r .none)) in
       let whole : whole-blocks (length (bytes-of k g)) ≡ true =
-        and-from (leb 1 (length (bytes-of k g))) (eqb (length (bytes-of k g) % 512) 0) (le-leb 1 (length (bytes-of k g)) (omega (arith, len))) (eq-eqb (length (bytes-of k g) % 512) 0 (omega (arith, len))) in
+      and-from (leb 1 (length (bytes-of k g))) (eqb (length (bytes-of k g) % 512) 0) (le-leb 1 (length (bytes-of k g)) (omega (arith, len))) (eq-eqb (length (bytes-of k g) % 512) 0 (omega (arith, len))) in
       let cells : payloads (length (bytes-of k g) / 512 - 1) (drop 512 (bytes-of k g)) ≡ g .cells =
-        (λ i. payloads (blocks i - 1) (others i)) ∙ ap (λ n. payloads n rest) (let e : suc count - 1 ≡ count = omega arith in e) ∙ r .again in
-      ( unless-kept (whole-blocks (length (bytes-of k g))) _ _ whole (ap (λ n. blocks-refusal k Title 0 n (bytes-of k g)) blocks ∙ walk),
-        (λ i. record { tracks = shape i .tracks; columns = shape i .columns; cells = cells i }) )
+      (λ i. payloads (blocks i - 1) (others i)) ∙ ap (λ n. payloads n rest) (let e : suc count - 1 ≡ count = omega arith in e) ∙ r .again in (
+        unless-kept (whole-blocks (length (bytes-of k g))) _ _ whole (ap (λ n. blocks-refusal k Title 0 n (bytes-of k g)) blocks ∙ walk),
+        (λ i. record { tracks = shape i .tracks; columns = shape i .columns; cells = cells i }),
+      )

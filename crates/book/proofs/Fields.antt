@@ -124,10 +124,10 @@ module _ (l k n : ℕ) (p : List ℕ) (fits : length p ≤ 502) where
   pub padded-is : padded (block-bytes l k n p) ≡ true
   padded-is =
       let e : padding (block-bytes l k n p) ≡ replicate (502 - length p) 0 =
-        ap (λ m. drop (6 + m) (take 508 (block-bytes l k n p))) payload-length-is
-        ∙ ap (drop (6 + length p)) body-is
-        ∙ sym (drop-drop (length p) 6 (body l k n p))
-        ∙ drop-at p (replicate (502 - length p) 0) (length p) refl in
+      ap (λ m. drop (6 + m) (take 508 (block-bytes l k n p))) payload-length-is
+      ∙ ap (drop (6 + length p)) body-is
+      ∙ sym (drop-drop (length p) 6 (body l k n p))
+      ∙ drop-at p (replicate (502 - length p) 0) (length p) refl in
       and-from (leb (payload-length (block-bytes l k n p)) 502) (blank (padding (block-bytes l k n p))) (le-leb (payload-length (block-bytes l k n p)) 502 (omega (arith, payload-length-is))) (ap blank e ∙ zeros-blank (502 - length p))
 
   last : (i : ℕ) → getD (block-bytes l k n p) (508 + i) 0 ≡ getD (four (weighted 1 (body l k n p))) i 0

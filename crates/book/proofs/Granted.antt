@@ -122,10 +122,10 @@ module _ (k : Kind) (s : Shape) (some : 1 ≤ s .tracks) (few : s .tracks ≤ 16
       let bs : Bytes b = bytes-take rest 512 bytes in
       let lp : length p ≡ due s read * t = length-payload b lb bs (own .2) ∙ eqb-true (payload-length b) (due s read * t) (q3 .0) in
       let as-block : b ≡ block-bytes columns-letter (k .number) n p =
-        bytes-of-fields b lb bs (own .2) (own .0) ∙ (λ i. block-bytes (eqb-true (letter b) columns-letter (q1 .0) i) (here .1 i) (here .0 i) p) in
+      bytes-of-fields b lb bs (own .2) (own .0) ∙ (λ i. block-bytes (eqb-true (letter b) columns-letter (q1 .0) i) (here .1 i) (here .0 i) p) in
       let ih : Written k s next (suc n) more (drop 512 rest) =
-        columns-written more (suc n) next (drop 512 rest) (length-drop 512 rest ∙ omega arith) (bytes-drop rest 512 bytes)
-        (subst (λ x. blocks-refusal k x (suc n) more (drop 512 rest) ≡ None) (open-after s read b (ltb read (s .columns)) refl (turn .0)) (e2 .1)) in
+      columns-written more (suc n) next (drop 512 rest) (length-drop 512 rest ∙ omega arith) (bytes-drop rest 512 bytes)
+      (subst (λ x. blocks-refusal k x (suc n) more (drop 512 rest) ≡ None) (open-after s read b (ltb read (s .columns)) refl (turn .0)) (e2 .1)) in
       let c = cut w p cells (last-or-full read (turn .0) p cells lp (ih .long)) in
       record {
         again =
@@ -175,18 +175,19 @@ book-written k input bytes e =
     let shape : title-shape b ≡ s = first-title 0 input refl in
     let lawful = in-shape-kept s (subst (λ x. in-shape x ≡ true) shape (q4 .1)) in
     let as-title : b ≡ block-bytes title-letter (k .number) 0 (s .tracks ∷ two (s .columns)) =
-      bytes-of-fields b lb bs (own .2) (own .0)
-      ∙ (λ i. block-bytes (eqb-true (letter b) title-letter (q1 .0) i) (here .1 i) (here .0 i) (title-payload b lb bs (eqb-true (payload-length b) 3 (q4 .0)) i))
-      ∙ (λ i. block-bytes title-letter (k .number) 0 (shape i .tracks ∷ two (shape i .columns))) in
+    bytes-of-fields b lb bs (own .2) (own .0)
+    ∙ (λ i. block-bytes (eqb-true (letter b) title-letter (q1 .0) i) (here .1 i) (here .0 i) (title-payload b lb bs (eqb-true (payload-length b) 3 (q4 .0)) i))
+    ∙ (λ i. block-bytes title-letter (k .number) 0 (shape i .tracks ∷ two (shape i .columns))) in
     let rest : Written k s 0 1 more (drop 512 input) =
-      columns-written k s (lawful .0) (lawful .1) more 1 0 (drop 512 input) (length-drop 512 input ∙ omega arith) (bytes-drop input 512 bytes)
-      (subst (λ x. blocks-refusal k (opened x 0) 1 more (drop 512 input) ≡ None) shape (e2 .1)) in
-    let all : s .columns - 0 ≡ s .columns = omega arith in
-    ( subst (λ n. known n ≡ true) (here .1) (own .1),
+    columns-written k s (lawful .0) (lawful .1) more 1 0 (drop 512 input) (length-drop 512 input ∙ omega arith) (bytes-drop input 512 bytes)
+    (subst (λ x. blocks-refusal k (opened x 0) 1 more (drop 512 input) ≡ None) shape (e2 .1)) in
+    let all : s .columns - 0 ≡ s .columns = omega arith in (
+      subst (λ n. known n ≡ true) (here .1) (own .1),
       record {
         shaped = record { some-track = lawful .0; few-tracks = lawful .1; few-columns = lawful .2; whole = rest .long ∙ ap (λ n. n * s .tracks) all };
         symbols = rest .symbols;
       },
       sym (take-append-drop 512 input)
-      ∙ (λ i. as-title i ++ rest .again i)
-      ∙ ap (λ n. block-bytes title-letter (k .number) 0 (s .tracks ∷ two (s .columns)) ++ column-blocks (k .number) (columns-a-block (s .tracks) * s .tracks) 1 n (payloads more (drop 512 input))) (rest .count ∙ ap (blocks-for (s .tracks)) all) )
+          ∙ (λ i. as-title i ++ rest .again i)
+          ∙ ap (λ n. block-bytes title-letter (k .number) 0 (s .tracks ∷ two (s .columns)) ++ column-blocks (k .number) (columns-a-block (s .tracks) * s .tracks) 1 n (payloads more (drop 512 input))) (rest .count ∙ ap (blocks-for (s .tracks)) all),
+    )

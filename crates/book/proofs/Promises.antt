@@ -47,10 +47,11 @@ module _ {S : Type 0} (k : Kind) (input : List ℕ) where
       let w = book-written k input bytes none in
       record {
         by-rules = none;
-        granted =
-          ( is-T (known (k .number)) (w .0),
-            record { score = w .1; bytes = view ∙ w .2; tracks = ap (λ s. s .tracks) shape; columns = ap (λ s. s .columns) shape },
-            view );
+        granted = (
+          is-T (known (k .number)) (w .0),
+          record { score = w .1; bytes = view ∙ w .2; tracks = ap (λ s. s .tracks) shape; columns = ap (λ s. s .columns) shape },
+          view,
+        );
         every = λ g known-kind score e. (refl, held-again k input g known-kind score e .1);
       }
 
@@ -77,11 +78,12 @@ place-told k b g holds column track at there e =
     let p = place-bounds (g .tracks) (g .columns) column track there′ in
     let r = place-read k g (holds .score .shaped) column track (p .0) (p .1) (p .2) (p .3) in
     let at′ : at ≡ byte-place (g .tracks) column track = e ∙ ap (λ t. byte-place t column track) (holds .tracks) in
-    let inside : cell-number (g .tracks) column track < length (g .cells) = omega (arith, holds .score .shaped .whole, mul-add-lt (column - 1) (g .tracks) (track - 1) (g .columns) (omega arith) (omega arith), mul-comm (g .tracks) (g .columns)) in
-    ( there′,
+    let inside : cell-number (g .tracks) column track < length (g .cells) = omega (arith, holds .score .shaped .whole, mul-add-lt (column - 1) (g .tracks) (track - 1) (g .columns) (omega arith) (omega arith), mul-comm (g .tracks) (g .columns)) in (
+      there′,
       subst (λ n. n < length (now (b .input))) (sym at′) (subst (λ l. byte-place (g .tracks) column track < length l) (sym (holds .bytes)) (r .0)),
       (λ i. getD (holds .bytes i) (at′ i) 0) ∙ r .1,
-      all-getD (λ x. T (readable k x)) (g .cells) (cell-number (g .tracks) column track) 0 inside (holds .score .symbols) )
+      all-getD (λ x. T (readable k x)) (g .cells) (cell-number (g .tracks) column track) 0 inside (holds .score .symbols),
+    )
 
 -- a symbol read from a byte that can be read
 pub told-there : {S : Type 0} (byte : S → ℕ) (o : Option S) (R : Type 0) (x y : ℕ) (there : Bool) → BySome o (R → ⊥) (λ s. byte s ≡ x) → R → there ≡ true → x ≡ y → BySome o (there ≡ false) (λ s. (there ≡ true) × (byte s ≡ y))

@@ -7,3 +7,4 @@ pub mod Reading
 pub mod Writing
 pub mod Slips
 pub mod SlipReading
+pub mod Describing

@@ -73,7 +73,8 @@ fn stored_check(bytes: &[u8]) -> u32
     requires { ⌜ length (now bytes) ≡ 512 ⌝ }
     ensures { λ r. ⌜ r ≡ stored-check (now (bytes .entry)) ⌝ }
 {
-    ((bytes[508] as u32 * 256 + bytes[509] as u32) * 256 + bytes[510] as u32) * 256 + bytes[511] as u32
+    ((bytes[508] as u32 * 256 + bytes[509] as u32) * 256 + bytes[510] as u32) * 256
+        + bytes[511] as u32
 }
 
 /// The number that two bytes write, the high byte first.

@@ -7,6 +7,8 @@ ghost use Rattle.book.specs.Faults.{block-told, book-told, short-told, slip-to
 ghost use Rattle.book.specs.declared.fault.BookFault.the-variants.{OfBlock};
 ghost use Rattle.book.specs.declared.fault.SlipFault.the-variants.{OfBlock as SlipBlock};
 ghost use Rattle.book.specs.declared.fault.SlipWriteFault.the-variants.{OfOutput};
+ghost use Rattle.book.specs.declared.fault.DescribeFault.the-variants.{Memory, OfOutput as DescribeOutput};
+use std::alloc::AllocError;
 
 /// Why a block is refused, whatever it is for.
 #[derive(Clone, Copy)]
@@ -183,5 +185,30 @@ impl SlipWriteFault {
             },
             SlipWriteFault::OfOutput(fault) => fault.refusal(),
         }
+    }
+}
+
+/// Why a book is not described.
+#[derive(Clone, Copy)]
+pub enum DescribeFault {
+    /// There is no memory for the text.
+    Memory,
+    /// The output is too short.
+    OfOutput(TooShort),
+}
+
+pub impl From<AllocError> for DescribeFault as DescribeFaultOfMemory {
+    ghost converts = { λ _ r. r ≡ Memory };
+
+    fn from(_error: AllocError) -> DescribeFault {
+        DescribeFault::Memory
+    }
+}
+
+pub impl From<TooShort> for DescribeFault as DescribeFaultOfOutput {
+    ghost converts = { λ f r. r ≡ DescribeOutput f };
+
+    fn from(fault: TooShort) -> DescribeFault {
+        DescribeFault::OfOutput(fault)
     }
 }

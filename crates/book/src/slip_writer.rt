@@ -19,14 +19,26 @@ ghost use Rattle.book.specs.SlipReading.{SlipWritten};
 
 /// Writes a question as a slip to the front of an output: plain numbers and symbols, of which the
 /// fields are checked first.
-pub fn write_slip<S: Symbol>(limit: u32, mode: u32, price: u32, query: &[S], out: &mut [u8]) -> Result<usize, SlipWriteFault>
+pub fn write_slip<S: Symbol>(
+    limit: u32,
+    mode: u32,
+    price: u32,
+    query: &[S],
+    out: &mut [u8],
+) -> Result<usize, SlipWriteFault>
     ensures { λ r. ⌜ SlipWritten kind (posed byte limit mode price (now (query .entry))) (now (out .entry)) (now (out .exit)) r ⌝ }
 {
     if !is_in_range(limit, mode, price, query.len()) {
         return Err(SlipWriteFault::OutOfRange);
     }
     has_room(out, 512)?;
-    put_slip::<S>(&mut out[0..512], limit as u16, mode as u8, price as u8, query);
+    put_slip::<S>(
+        &mut out[0..512],
+        limit as u16,
+        mode as u8,
+        price as u8,
+        query,
+    );
     Ok(512)
 }
 

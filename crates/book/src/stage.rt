@@ -32,7 +32,12 @@ pub enum Stage {
 
 impl Stage {
     /// The stage after one more block, which is in order by itself and has that letter.
-    pub(crate) fn next<S: Symbol>(self, block: usize, mark: Letter, bytes: &[u8]) -> Result<Stage, BookFault>
+    pub(crate) fn next<S: Symbol>(
+        self,
+        block: usize,
+        mark: Letter,
+        bytes: &[u8],
+    ) -> Result<Stage, BookFault>
         requires { ⌜ Open self ⌝ }
         requires { ⌜ block < 2 ^ 55 ⌝ }
         requires { ⌜ length (now bytes) ≡ 512 ⌝ }
@@ -42,7 +47,12 @@ impl Stage {
     {
         match (self, mark) {
             (Stage::Title, Letter::Title) => title::<S>(block, bytes),
-            (Stage::Columns { shape, read }, Letter::Columns) => columns::<S>(shape, read, block, bytes),
+            (Stage::Columns { shape, read }, Letter::Columns) => columns::<S>(
+                shape,
+                read,
+                block,
+                bytes,
+            ),
             _ => Err(BookFault::OutOfTurn { block }),
         }
     }
@@ -124,7 +134,12 @@ fn title<S: Symbol>(block: usize, bytes: &[u8]) -> Result<Stage, BookFault>
     Ok(shape.opened(0))
 }
 
-fn columns<S: Symbol>(shape: Shape, read: u16, block: usize, bytes: &[u8]) -> Result<Stage, BookFault>
+fn columns<S: Symbol>(
+    shape: Shape,
+    read: u16,
+    block: usize,
+    bytes: &[u8],
+) -> Result<Stage, BookFault>
     requires { ⌜ 1 ≤ shape .tracks ⌝ ∗ ⌜ shape .tracks ≤ 16 ⌝ ∗ ⌜ shape .columns ≤ 4096 ⌝ ∗ ⌜ read < shape .columns ⌝ }
     requires { ⌜ block < 2 ^ 55 ⌝ }
     requires { ⌜ length (now bytes) ≡ 512 ⌝ }
@@ -142,7 +157,9 @@ fn columns<S: Symbol>(shape: Shape, read: u16, block: usize, bytes: &[u8]) -> Re
     }
     let front = readable_front::<S>(&bytes[6..6 + len as usize]);
     if front < len as usize {
-        return Err(BookFault::Unreadable { byte: 512 * block + 6 + front });
+        return Err(BookFault::Unreadable {
+            byte: 512 * block + 6 + front,
+        });
     }
     Ok(shape.opened(read + due))
 }

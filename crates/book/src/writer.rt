@@ -24,7 +24,12 @@ impl<S: Symbol> Grid<'_, S> {
         if out.len() < needed {
             return Err(TooShort { needed });
         }
-        write_title(&mut out[0..512], S::number(), self.tracks as u8, self.columns as u16);
+        write_title(
+            &mut out[0..512],
+            S::number(),
+            self.tracks as u8,
+            self.columns as u16,
+        );
         write_columns::<S>(out, self.symbols, a_block * self.tracks, blocks);
         Ok(needed)
     }
@@ -59,6 +64,10 @@ fn write_columns<S: Symbol>(out: &mut [u8], symbols: &[S], a_block: usize, block
         let n = m + 1;
         let from = (m * a_block).min(symbols.len());
         let to = (from + a_block).min(symbols.len());
-        write_block::<S>(&mut out[512 * n..512 * n + 512], n as u16, &symbols[from..to]);
+        write_block::<S>(
+            &mut out[512 * n..512 * n + 512],
+            n as u16,
+            &symbols[from..to],
+        );
     }
 }

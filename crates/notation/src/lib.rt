@@ -5,9 +5,11 @@ mod pitch_class;
 mod stroke;
 
 pub use pitch::Pitch;
+pub use pitch::PitchSymbol;
 pub use pitch_class::PitchClass;
+pub use pitch_class::PitchClassSymbol;
 pub use stroke::Stroke;
-
+pub use stroke::StrokeSymbol;
 ghost use mathlib.Core.Path.{_≡_};
 ghost use Prim.Native.Nat.{ℕ};
 ghost use lib.Dec.{T};

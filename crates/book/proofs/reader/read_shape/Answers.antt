@@ -24,10 +24,10 @@ returns-in-Break-stage g c =
     let input = c .args .input .now in
     let b = take (512 * n + 512 - 512 * n) (from-block n input) in
     let stops : book-refusal k input ≡ Some (book-told (c .in-Break-stage .field-0 .0)) =
-      cond-true (whole-blocks (length input)) (blocks-refusal k Title 0 (length input / 512) input) (Some (refusal 1 (length input) File)) (w .0)
-      ∙ ap (λ m. blocks-refusal k Title 0 m input) (sym (w .1))
-      ∙ c .loop-n .inv .0
-      ∙ walk-stops k (c .loop-n .stage) n blocks input (c .loop-n-test .taken) b refl (book-told (c .in-Break-stage .field-0 .0)) h in
+    cond-true (whole-blocks (length input)) (blocks-refusal k Title 0 (length input / 512) input) (Some (refusal 1 (length input) File)) (w .0)
+    ∙ ap (λ m. blocks-refusal k Title 0 m input) (sym (w .1))
+    ∙ c .loop-n .inv .0
+    ∙ walk-stops k (c .loop-n .stage) n blocks input (c .loop-n-test .taken) b refl (book-told (c .in-Break-stage .field-0 .0)) h in
     rw (p .1, p .2) stops
 
 pub loop-n-again : need.loop-n-again
@@ -37,9 +37,10 @@ loop-n-again g c =
     let n = c .loop-n .n in
     let blocks = c .in-Continue-blocks .blocks in
     let input = c .args .input .now in
-    let b = take (512 * n + 512 - 512 * n) (from-block n input) in
-    ( c .loop-n .inv .0
-      ∙ walk-on k (c .loop-n .stage) n blocks input (c .loop-n-test .taken) b refl (h .0)
-      ∙ ap (λ s. blocks-refusal k s (n + 1) (blocks - (n + 1)) (from-block (n + 1) input)) (sym (h .1)),
+    let b = take (512 * n + 512 - 512 * n) (from-block n input) in (
+      c .loop-n .inv .0
+          ∙ walk-on k (c .loop-n .stage) n blocks input (c .loop-n-test .taken) b refl (h .0)
+          ∙ ap (λ s. blocks-refusal k s (n + 1) (blocks - (n + 1)) (from-block (n + 1) input)) (sym (h .1)),
       h .2,
-      subst (λ s. Knows s (n + 1) (title-shape input)) (sym (h .1)) (knows-more k (c .loop-n .stage) n blocks input (c .loop-n-test .taken) b refl (c .loop-n .inv .2)))
+      subst (λ s. Knows s (n + 1) (title-shape input)) (sym (h .1)) (knows-more k (c .loop-n .stage) n blocks input (c .loop-n-test .taken) b refl (c .loop-n .inv .2)),
+    )

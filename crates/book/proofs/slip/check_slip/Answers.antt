@@ -51,7 +51,13 @@ returns g c =
     let k = g .S·Symbol .kind in
     let b = c .args .input .now in
     let own = c .in-Continue-checked .ensures tt in
-    let fields = c .in-Some .ensures tt in
-    ( slip-symbols k b (c .if-input-ne512 .left) (own .0) (sym (own .1) ∙ ap letter-byte (c .in-Slip .is)) (sym (c .if-not-is-expected .ensures tt)) (fields .0)
-      ∙ passes k b (c .in-Some .fields .notes) (c .readable-front-front .result) (c .if-input-ne512 .left) (fields .4) (fields .5) (c .readable-front-front .ensures) (c .if-front-notes .left),
-      fields .1, fields .2, fields .3, fields .4, c .if-input-ne512 .left, fields .5 )
+    let fields = c .in-Some .ensures tt in (
+      slip-symbols k b (c .if-input-ne512 .left) (own .0) (sym (own .1) ∙ ap letter-byte (c .in-Slip .is)) (sym (c .if-not-is-expected .ensures tt)) (fields .0)
+          ∙ passes k b (c .in-Some .fields .notes) (c .readable-front-front .result) (c .if-input-ne512 .left) (fields .4) (fields .5) (c .readable-front-front .ensures) (c .if-front-notes .left),
+      fields .1,
+      fields .2,
+      fields .3,
+      fields .4,
+      c .if-input-ne512 .left,
+      fields .5,
+    )

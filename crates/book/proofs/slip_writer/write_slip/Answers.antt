@@ -41,4 +41,4 @@ returns g c =
     let ok = c .if-not-is-in-range .ensures tt in
     let q = posed (g .S·Symbol .byte) (c .args .limit) (c .args .mode) (c .args .price) query in
     let len = length-slip k q (omega (arith, ranges (c .args .limit) (c .args .mode) (c .args .price) (length query) (sym ok) .3, length-map query (g .S·Symbol .byte))) in
-    (sym (ok ∙ spelled-range (g .S·Symbol .byte) query (c .args .limit) (c .args .mode) (c .args .price)), (sym len, ap (λ x. x ++ drop 512 (c .args .out .now)) (c .put-slip .ensures ∙ slip-is k q)))
+    (sym (ok ∙ spelled-range (g .S·Symbol .byte) query (c .args .limit) (c .args .mode) (c .args .price)), (sym len, c .in-Continue-has-room .ensures tt, ap (λ x. x ++ drop 512 (c .args .out .now)) (c .put-slip .ensures ∙ slip-is k q)))

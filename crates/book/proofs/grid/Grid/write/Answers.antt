@@ -18,4 +18,4 @@ returns g c =
     let s = c .args .self .now in
     let k = g .S·Symbol .kind in
     let grid = spelled (g .S·Symbol .byte) (s .tracks) (s .columns) (s .symbols .now) in
-    (sym (length-bytes k grid), book-done k grid (c .number .result) (c .args .out .now) (c .write-title .last .out) (c .write-columns .last .out) (c .number .ensures) (c .write-title .ensures) (c .write-columns .ensures))
+    (sym (length-bytes k grid), c .if-out-needed .left, book-done k grid (c .number .result) (c .args .out .now) (c .write-title .last .out) (c .write-columns .last .out) (c .number .ensures) (c .write-title .ensures) (c .write-columns .ensures))
