@@ -20,7 +20,7 @@ use Rattle.book.specs.Refusals.{refusal, unless, then}
 use Rattle.book.specs.Blocks.{block-bytes, body, four, weighted, two, letter, payload-length, payload, slip-letter, block-refusal}
 use Rattle.book.specs.Books.{expected, symbols-refusal}
 use Rattle.book.specs.Faults.{slip-told}
-use Rattle.book.specs.Slips.{Question, QuestionOf, in-range, slip-payload, slip-bytes, asked, slip-fields, slip-refusal}
+use Rattle.book.specs.Slips.{Inquiry, InquiryOf, in-range, slip-payload, slip-bytes, asked, slip-fields, slip-refusal}
 use Rattle.book.specs.SlipReading.{Asks, SlipReading, mode-number, price-number}
 use Rattle.book.specs.declared.fault.SlipFault.{SlipFault}
 use Rattle.book.specs.declared.refusal.Layer.the-variants.{File, Slip as OfSlip}
@@ -61,7 +61,7 @@ ranges limit mode price notes e =
     let r = and-parts (leb limit 4095) (leb mode 1) (q .0) in
     (leb-true limit 4095 (r .0), leb-true mode 1 (r .1), leb-true price 2 (and-parts (leb 1 price) (leb price 2) (q .1) .1), leb-true notes 64 (and-parts (leb 1 notes) (leb notes 64) (p .1) .1))
 
-pub slip-granted : (k : Kind) (b : List ℕ) → Bytes b → slip-refusal k b ≡ None → (known (k .number) ≡ true) × QuestionOf k (asked b) × (b ≡ slip-bytes k (asked b))
+pub slip-granted : (k : Kind) (b : List ℕ) → Bytes b → slip-refusal k b ≡ None → (known (k .number) ≡ true) × InquiryOf k (asked b) × (b ≡ slip-bytes k (asked b))
 unfolding slip-bytes
 slip-granted k b bytes e =
     let e0 = unless-none (eqb (length b) 512) _ _ e in
@@ -84,7 +84,7 @@ slip-granted k b bytes e =
           ∙ (λ i. block-bytes (eqb-true (letter b) slip-letter (e2 .0) i) (here .1 i) (here .0 i) (asked-payload b len bytes (eqb-true (payload-length b) (5 + getD b 10 0) (fields .0)) few i)),
     )
 
-module _ (k : Kind) (q : Question) (lawful : QuestionOf k q) where
+module _ (k : Kind) (q : Inquiry) (lawful : InquiryOf k q) where
   few : length (q .query) ≤ 64
   few = ranges (q .limit) (q .mode) (q .price) (length (q .query)) (lawful .fields) .3
 
@@ -115,7 +115,7 @@ module _ (k : Kind) (q : Question) (lawful : QuestionOf k q) where
       )
 
 -- the bytes of a question of a known kind ask that question
-asked-again : (k : Kind) (input : List ℕ) (q : Question) → T (known (k .number)) → QuestionOf k q → input ≡ slip-bytes k q → (slip-refusal k input ≡ None) × (asked input ≡ q)
+asked-again : (k : Kind) (input : List ℕ) (q : Inquiry) → T (known (k .number)) → InquiryOf k q → input ≡ slip-bytes k q → (slip-refusal k input ≡ None) × (asked input ≡ q)
 asked-again k input q known-kind lawful e =
     let r = slip-reads k q lawful (is-true (known (k .number)) known-kind) in
     (ap (slip-refusal k) e ∙ r .0, ap asked e ∙ r .1)
@@ -139,11 +139,11 @@ module _ {S : Type 0} (k : Kind) (input : List ℕ) where
       }
 
 -- a slip is one block
-pub length-slip : (k : Kind) (q : Question) → length (q .query) ≤ 64 → length (slip-bytes k q) ≡ 512
+pub length-slip : (k : Kind) (q : Inquiry) → length (q .query) ≤ 64 → length (slip-bytes k q) ≡ 512
 unfolding slip-bytes
 length-slip k q few = length-block slip-letter (k .number) 0 (slip-payload q) (omega arith)
 
-pub slip-is : (k : Kind) (q : Question) → block-bytes slip-letter (k .number) 0 (slip-payload q) ≡ slip-bytes k q
+pub slip-is : (k : Kind) (q : Inquiry) → block-bytes slip-letter (k .number) 0 (slip-payload q) ≡ slip-bytes k q
 unfolding slip-bytes
 slip-is k q = refl
 

@@ -16,13 +16,13 @@ use Rattle.std.specs.declared.result.Result.the-variants.{Ok, Err}
 use Rattle.notation.specs.Kind.{Kind}
 use Rattle.notation.specs.Known.{known}
 use Rattle.book.specs.Faults.{slip-told}
-use Rattle.book.specs.Slips.{Question, QuestionOf, slip-bytes, slip-refusal, asked, in-range}
+use Rattle.book.specs.Slips.{Inquiry, InquiryOf, slip-bytes, slip-refusal, asked, in-range}
 use Rattle.book.specs.Writing.{Written}
 use Rattle.book.specs.declared.fault.SlipFault.{SlipFault}
 use Rattle.book.specs.declared.fault.SlipWriteFault.{SlipWriteFault}
 use Rattle.book.specs.declared.fault.SlipWriteFault.the-variants.{OutOfRange, OfOutput}
-use Rattle.book.specs.declared.slip.Mode.{Mode}
-use Rattle.book.specs.declared.slip.Mode.the-variants.{Untransposed, AnyTransposition}
+use Rattle.notation.specs.declared.Mode.{Mode}
+use Rattle.notation.specs.declared.Mode.the-variants.{Untransposed, AnyTransposition}
 use Rattle.book.specs.declared.slip.PriceKind.{PriceKind}
 use Rattle.book.specs.declared.slip.PriceKind.the-variants.{Changes, ChangesThenSilence}
 use Rattle.book.specs.declared.slip.Slip.{Slip}
@@ -36,8 +36,8 @@ price-number Changes = 1
 price-number ChangesThenSilence = 2
 
 -- a slip that was read asks a question of the kind
-pub record Asks {S : Type 0} (k : Kind) (s : Slip S) (q : Question) : Type 0 where
-  pub question : QuestionOf k q
+pub record Asks {S : Type 0} (k : Kind) (s : Slip S) (q : Inquiry) : Type 0 where
+  pub question : InquiryOf k q
   pub limit : s .limit ≡ q .limit
   pub mode : mode-number (s .mode) ≡ q .mode
   pub price : price-number (s .price) ≡ q .price
@@ -50,14 +50,14 @@ pub record SlipReading {S : Type 0} (k : Kind) (input : List ℕ) (r : Result (S
   -- what is granted is of a known kind, and asks a question of which the input is the bytes
   pub granted : Cases r (λ s. T (known (k .number)) × Asks k s (asked input) × (input ≡ slip-bytes k (asked input))) (λ f. Unit {0})
   -- the bytes of every question of a known kind are granted, and ask that question
-  pub every : (q : Question) → T (known (k .number)) → QuestionOf k q → input ≡ slip-bytes k q → (isOk r ≡ true) × (asked input ≡ q)
+  pub every : (q : Inquiry) → T (known (k .number)) → InquiryOf k q → input ≡ slip-bytes k q → (isOk r ≡ true) × (asked input ≡ q)
 
 -- a note of the query, counted from 1, told exactly where there is one
-abbrev pub NoteTold : {S : Type 0} → (S → ℕ) → Question → ℕ → Option S → Type 0
+abbrev pub NoteTold : {S : Type 0} → (S → ℕ) → Inquiry → ℕ → Option S → Type 0
 NoteTold byte q n r = BySome r ((leb 1 n && leb n (length (q .query))) ≡ false) (λ s. ((leb 1 n && leb n (length (q .query))) ≡ true) × (byte s ≡ getD (q .query) (n - 1) 0))
 
 -- writing a question as a slip: refused where a field is out of range, then where the output is too short; a refusal leaves the output as it was
-abbrev pub SlipWritten : Kind → Question → List ℕ → List ℕ → Result ℕ SlipWriteFault → Type 0
+abbrev pub SlipWritten : Kind → Inquiry → List ℕ → List ℕ → Result ℕ SlipWriteFault → Type 0
 SlipWritten k q before after (Ok n) = (in-range (q .limit) (q .mode) (q .price) (length (q .query)) ≡ true) × Written (slip-bytes k q) before after (Ok n)
 SlipWritten k q before after (Err (OfOutput f)) = (in-range (q .limit) (q .mode) (q .price) (length (q .query)) ≡ true) × Written (slip-bytes k q) before after (Err f)
 SlipWritten k q before after (Err OutOfRange) = (in-range (q .limit) (q .mode) (q .price) (length (q .query)) ≡ false) × (after ≡ before)

@@ -15,14 +15,14 @@ use Rattle.book.specs.declared.refusal.Layer.the-variants.{File, Slip}
 use Rattle.book.specs.declared.refusal.Refusal.{Refusal}
 
 -- a question: the limit, the mode, the price, and the byte of each note of the query
-pub record Question : Type 0 where
+pub record Inquiry : Type 0 where
   pub limit : ℕ
   pub mode : ℕ
   pub price : ℕ
   pub query : List ℕ
 
 -- the question that plain numbers and symbols pose
-abbrev pub posed : {S : Type 0} → (S → ℕ) → ℕ → ℕ → ℕ → List S → Question
+abbrev pub posed : {S : Type 0} → (S → ℕ) → ℕ → ℕ → ℕ → List S → Inquiry
 posed byte limit mode price query = record { limit = limit; mode = mode; price = price; query = map byte query }
 
 -- limit 0 to 4,095, mode 0 or 1, price 1 or 2, a query of 1 to 64 notes
@@ -30,19 +30,19 @@ abbrev pub in-range : ℕ → ℕ → ℕ → ℕ → Bool
 in-range limit mode price notes = leb limit 4095 && leb mode 1 && (leb 1 price && leb price 2) && (leb 1 notes && leb notes 64)
 
 -- a question of the kind: its fields in range, its query read by the kind
-pub record QuestionOf (k : Kind) (q : Question) : Type 0 where
+pub record InquiryOf (k : Kind) (q : Inquiry) : Type 0 where
   pub fields : in-range (q .limit) (q .mode) (q .price) (length (q .query)) ≡ true
   pub symbols : All (λ b. T (readable k b)) (q .query)
 
 -- the bytes of a question: one slip block numbered 0
-abbrev pub slip-payload : Question → List ℕ
+abbrev pub slip-payload : Inquiry → List ℕ
 slip-payload q = two (q .limit) ++ (q .mode ∷ q .price ∷ length (q .query) ∷ q .query)
 
-unfoldable pub slip-bytes : Kind → Question → List ℕ
+unfoldable pub slip-bytes : Kind → Inquiry → List ℕ
 slip-bytes k q = block-bytes slip-letter (k .number) 0 (slip-payload q)
 
 -- the question that a slip asks
-abbrev pub asked : List ℕ → Question
+abbrev pub asked : List ℕ → Inquiry
 asked b = record { limit = getD b 6 0 * 256 + getD b 7 0; mode = getD b 8 0; price = getD b 9 0; query = take (getD b 10 0) (drop 11 b) }
 
 -- the payload is as long as its query asks, and its fields are in range

@@ -22,7 +22,6 @@ pub use fault::TooShort;
 pub use grid::Grid;
 pub use refusal::Layer;
 pub use refusal::Refusal;
-pub use slip::Mode;
 pub use slip::PriceKind;
 pub use slip::Slip;
 pub use slip_writer::write_slip;

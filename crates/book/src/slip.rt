@@ -7,6 +7,7 @@ use super::fault::SlipFault;
 use super::fault::SlipFaultOfBlock;
 use super::stage::is_expected;
 use super::stage::readable_front;
+use notation::Mode;
 use notation::Symbol;
 use std::marker::PhantomData;
 ghost use mathlib.Core.Bool.{true, false};
@@ -17,15 +18,8 @@ ghost use Rattle.std.specs.Options.{Cases as BySome};
 ghost use Rattle.std.specs.Results.{Cases};
 ghost use Rattle.std.specs.declared.option.Option.the-variants.{Some, None};
 ghost use Rattle.book.specs.Faults.{slip-told};
-ghost use Rattle.book.specs.Slips.{Question, slip-refusal, slip-fields, asked};
+ghost use Rattle.book.specs.Slips.{Inquiry, slip-refusal, slip-fields, asked};
 ghost use Rattle.book.specs.SlipReading.{SlipReading, Asks, NoteTold, mode-number, price-number};
-
-/// Which transpositions a question admits: none but the untransposed query, or every one.
-#[derive(Clone, Copy)]
-pub enum Mode {
-    Untransposed,
-    AnyTransposition,
-}
 
 /// At which price a question is asked.
 #[derive(Clone, Copy)]
@@ -71,33 +65,33 @@ impl<'a, S: Symbol> Slip<'a, S> {
     }
 
     pub fn limit(&self) -> u16
-        ensures { λ r. ⌜ ((q : Question) → Asks kind (now (self .entry)) q → r ≡ q .limit) ⌝ }
+        ensures { λ r. ⌜ ((q : Inquiry) → Asks kind (now (self .entry)) q → r ≡ q .limit) ⌝ }
     {
         self.limit
     }
 
     pub fn mode(&self) -> Mode
-        ensures { λ r. ⌜ ((q : Question) → Asks kind (now (self .entry)) q → mode-number r ≡ q .mode) ⌝ }
+        ensures { λ r. ⌜ ((q : Inquiry) → Asks kind (now (self .entry)) q → mode-number r ≡ q .mode) ⌝ }
     {
         self.mode
     }
 
     pub fn price(&self) -> PriceKind
-        ensures { λ r. ⌜ ((q : Question) → Asks kind (now (self .entry)) q → price-number r ≡ q .price) ⌝ }
+        ensures { λ r. ⌜ ((q : Inquiry) → Asks kind (now (self .entry)) q → price-number r ≡ q .price) ⌝ }
     {
         self.price
     }
 
     /// The number of notes in the query.
     pub fn notes(&self) -> usize
-        ensures { λ r. ⌜ ((q : Question) → Asks kind (now (self .entry)) q → r ≡ length (q .query)) ⌝ }
+        ensures { λ r. ⌜ ((q : Inquiry) → Asks kind (now (self .entry)) q → r ≡ length (q .query)) ⌝ }
     {
         self.query.len()
     }
 
     /// A note of the query, counted from 1; absent where there is no such note.
     pub fn note(&self, n: usize) -> Option<S>
-        ensures { λ r. ⌜ ((q : Question) → Asks kind (now (self .entry)) q → NoteTold byte q n r) ⌝ }
+        ensures { λ r. ⌜ ((q : Inquiry) → Asks kind (now (self .entry)) q → NoteTold byte q n r) ⌝ }
     {
         if n < 1 || n > self.query.len() {
             return None;

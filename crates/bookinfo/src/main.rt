@@ -1,7 +1,7 @@
 //! Tells what the book on standard input is: kind, tracks and columns, or why it is refused.
 
-use book::describe;
 use book::DescribeFault;
+use book::describe;
 use std::error::AnyError;
 use std::io::Read;
 use std::io::Write;

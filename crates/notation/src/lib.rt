@@ -27,6 +27,13 @@ pub enum Following {
     Zero,
 }
 
+/// Which transpositions are admitted: none but the untransposed query, or every one.
+#[derive(Clone, Copy)]
+pub enum Mode {
+    Untransposed,
+    AnyTransposition,
+}
+
 /// A kind of symbol. Its meaning is the record `kind`, and a symbol is told by its byte: a code
 /// of the kind, or 255 for a rest.
 pub trait Symbol: Copy {

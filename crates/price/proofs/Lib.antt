@@ -1,0 +1,6 @@
+pub mod Laws
+pub mod Widest
+pub mod Spots
+pub mod Comparing
+pub mod Keeps
+pub mod Spanned

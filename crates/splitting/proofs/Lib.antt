@@ -1,0 +1,13 @@
+pub mod Gaps
+pub mod Places
+pub mod Rests
+pub mod Depths
+pub mod Least
+pub mod Farther
+pub mod Kept
+pub mod Laws
+pub mod AnswerLaws
+pub mod Minimum
+pub mod Tests
+pub mod Decide
+pub mod Examples
