@@ -85,13 +85,13 @@ block-more kind w m k cells d o blk room fits ek eo eb =
     ∙ ap (λ y. y ++ drop n d) (append-assoc (take 512 d) cb blk ∙ ap (λ y. take 512 d ++ y) block)
 
 -- a title and column blocks in front of an output are the bytes of the score
-pub book-done : (k : Kind) (g : Grid) (number : ℕ) (d titled done : List ℕ) → number ≡ k .number → titled ≡ block-bytes title-letter number 0 (g .tracks ∷ two (g .columns)) → done ≡ take 512 (titled ++ drop 512 d) ++ column-blocks (k .number) (columns-a-block (g .tracks) * g .tracks) 1 (blocks-for (g .tracks) (g .columns)) (g .cells) ++ drop (512 * (1 + blocks-for (g .tracks) (g .columns))) (titled ++ drop 512 d) → done ≡ bytes-of k g ++ drop (512 * (1 + blocks-for (g .tracks) (g .columns))) d
+pub book-done : (k : Kind) (g : Grid) (number blocks : ℕ) (d titled done : List ℕ) → number ≡ k .number → blocks ≡ blocks-for (g .tracks) (g .columns) → titled ≡ block-bytes title-letter number 0 (g .tracks ∷ two (g .columns)) → done ≡ take 512 (titled ++ drop 512 d) ++ column-blocks (k .number) (columns-a-block (g .tracks) * g .tracks) 1 blocks (g .cells) ++ drop (512 * (1 + blocks)) (titled ++ drop 512 d) → done ≡ bytes-of k g ++ drop (512 * (1 + blocks)) d
 unfolding bytes-of
-book-done k g number d titled done en et ed =
-    let n = 512 * (1 + blocks-for (g .tracks) (g .columns)) in
+book-done k g number blocks d titled done en eb et ed =
+    let n = 512 * (1 + blocks) in
+    let w = columns-a-block (g .tracks) * g .tracks in
     let title = block-bytes title-letter (k .number) 0 (g .tracks ∷ two (g .columns)) in
-    let cb = column-blocks (k .number) (columns-a-block (g .tracks) * g .tracks) 1 (blocks-for (g .tracks) (g .columns)) (g .cells) in
     let is : titled ≡ title = et ∙ ap (λ m. block-bytes title-letter m 0 (g .tracks ∷ two (g .columns))) en in
     let lt : length title ≡ 512 = length-block title-letter (k .number) 0 (g .tracks ∷ two (g .columns)) (omega arith) in
     let lt′ : length titled ≡ 512 = ap length is ∙ lt in
-    ed ∙ (λ i. (take-at titled (drop 512 d) 512 lt′ ∙ is) i ++ cb ++ drop-append-drop 512 d titled n (omega arith) lt′ i)
+    ed ∙ (λ i. (take-at titled (drop 512 d) 512 lt′ ∙ is) i ++ column-blocks (k .number) w 1 (eb i) (g .cells) ++ drop-append-drop 512 d titled n (omega arith) lt′ i)

@@ -14,7 +14,8 @@ use Rattle.std.proofs.shelf.Bits.{mul-add-lt}
 use Rattle.std.proofs.shelf.Elements.{all-getD}
 use Rattle.std.specs.declared.option.Option.the-variants.{Some, None}
 use Rattle.std.specs.declared.result.Result.the-variants.{Ok, Err}
-use Rattle.std.proofs.shelf.Tests.{and-parts, leb-true}
+use mathlib.Core.Logic.{⊎-elim}
+use Rattle.std.proofs.shelf.Tests.{and-parts, leb-true, cases-bool}
 use Rattle.notation.specs.Kind.{Kind, readable}
 use Rattle.notation.specs.Known.{known}
 use Rattle.book.specs.Grids.{Grid, ScoreOf, bytes-of}
@@ -84,6 +85,12 @@ place-told k b g holds column track at there e =
       (λ i. getD (holds .bytes i) (at′ i) 0) ∙ r .1,
       all-getD (λ x. T (readable k x)) (g .cells) (cell-number (g .tracks) column track) 0 inside (holds .score .symbols),
     )
+
+-- where no byte of a place is told there is no such place
+pub nowhere : {S : Type 0} (k : Kind) (b : Book S) (g : Grid) → Holds k b g → (column track : ℕ) → (has-place (b .shape .tracks) (b .shape .columns) column track ≡ true → length (now (b .input)) ≤ byte-place (b .shape .tracks) column track) → has-place (g .tracks) (g .columns) column track ≡ false
+nowhere k b g holds column track past =
+    (λ i. has-place (sym (holds .tracks) i) (sym (holds .columns) i) column track)
+    ∙ ⊎-elim (λ there. absurd (omega (arith, past there, place-told k b g holds column track (byte-place (b .shape .tracks) column track) there refl .1))) (λ e. e) (cases-bool (has-place (b .shape .tracks) (b .shape .columns) column track))
 
 -- a symbol read from a byte that can be read
 pub told-there : {S : Type 0} (byte : S → ℕ) (o : Option S) (R : Type 0) (x y : ℕ) (there : Bool) → BySome o (R → ⊥) (λ s. byte s ≡ x) → R → there ≡ true → x ≡ y → BySome o (there ≡ false) (λ s. (there ≡ true) × (byte s ≡ y))

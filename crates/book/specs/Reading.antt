@@ -1,10 +1,10 @@
 -- What a reading of a book promises.
 use mathlib.Core.Path.{_≡_}
 use mathlib.Core.Bool.{Bool, true, false, _&&_}
-use Prim.Native.Nat.{ℕ, _+_, _-_, _*_, _/_, _%_}
+use Prim.Native.Nat.{ℕ, _+_, _-_, _*_, _/_, _%_, _≤_}
 use denote.Ref.{now}
 use lib.Dec.{T, leb}
-use lib.ListN.{getD}
+use lib.ListN.{length, getD}
 use mathlib.Core.List.{List}
 use Rattle.std.specs.Options.{Cases as BySome}
 use Rattle.std.specs.Results.{Cases, isOk}
@@ -50,3 +50,9 @@ byte-place tracks column track = 512 * (1 + cell-number tracks column track / (c
 -- the symbol in a column on a track, told exactly where there is such a place
 abbrev pub Told : {S : Type 0} → (S → ℕ) → Grid → ℕ → ℕ → Option S → Type 0
 Told byte g column track r = BySome r (has-place (g .tracks) (g .columns) column track ≡ false) (λ s. (has-place (g .tracks) (g .columns) column track ≡ true) × (byte s ≡ getD (g .cells) (cell-number (g .tracks) column track) 0))
+
+-- the byte of a place in some input: absent where there is no such place, or the input ends before it
+abbrev pub CellTold : List ℕ → ℕ → ℕ → ℕ → ℕ → Option ℕ → Type 0
+CellTold input tracks columns column track r =
+    BySome r (has-place tracks columns column track ≡ true → length input ≤ byte-place tracks column track)
+    (λ b. (has-place tracks columns column track ≡ true) × (b ≡ getD input (byte-place tracks column track) 0))

@@ -52,9 +52,13 @@ pub record SlipReading {S : Type 0} (k : Kind) (input : List ℕ) (r : Result (S
   -- the bytes of every question of a known kind are granted, and ask that question
   pub every : (q : Inquiry) → T (known (k .number)) → InquiryOf k q → input ≡ slip-bytes k q → (isOk r ≡ true) × (asked input ≡ q)
 
--- a note of the query, counted from 1, told exactly where there is one
+-- there is that note, counted from 1
+abbrev pub has-note : List ℕ → ℕ → Bool
+has-note query n = leb 1 n && leb n (length query)
+
+-- a note of the query, told exactly where there is one
 abbrev pub NoteTold : {S : Type 0} → (S → ℕ) → Inquiry → ℕ → Option S → Type 0
-NoteTold byte q n r = BySome r ((leb 1 n && leb n (length (q .query))) ≡ false) (λ s. ((leb 1 n && leb n (length (q .query))) ≡ true) × (byte s ≡ getD (q .query) (n - 1) 0))
+NoteTold byte q n r = BySome r (has-note (q .query) n ≡ false) (λ s. (has-note (q .query) n ≡ true) × (byte s ≡ getD (q .query) (n - 1) 0))
 
 -- writing a question as a slip: refused where a field is out of range, then where the output is too short; a refusal leaves the output as it was
 abbrev pub SlipWritten : Kind → Inquiry → List ℕ → List ℕ → Result ℕ SlipWriteFault → Type 0

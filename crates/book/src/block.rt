@@ -56,9 +56,17 @@ pub(crate) fn check(bytes: &[u8]) -> u32
 {
     let mut sum: u32 = 0;
     for i in 0..508usize {
-        sum += (i as u32 + 1) * bytes[i] as u32;
+        sum += weight(i, bytes[i]);
     }
     sum
+}
+
+/// A byte times its position counted from 1.
+fn weight(i: usize, b: u8) -> u32
+    requires { ⌜ i < 508 ⌝ }
+    ensures { λ r. ⌜ r ≡ (i + 1) * b ⌝ }
+{
+    (i as u32 + 1) * b as u32
 }
 
 /// Whether the check that is stored is the one worked out.

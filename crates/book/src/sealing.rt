@@ -1,11 +1,13 @@
 //! Writing blocks.
 
 use super::block::check;
+use super::fault::TooShort;
 use notation::Symbol;
 ghost use mathlib.Core.List.{_∷_, _++_, map};
 ghost use mathlib.Core.Path.{_≡_};
 ghost use Prim.Native.Nat.{_+_, _-_, _/_, _%_, _<_, _≤_};
 ghost use lib.ListN.{length, take, drop, set, replicate};
+ghost use Rattle.std.specs.Results.{Cases};
 ghost use Rattle.book.specs.Blocks.{two, four, weighted, block-bytes, columns-letter};
 
 /// Writes a number in two bytes, the high byte first.
@@ -70,4 +72,14 @@ pub(crate) fn put_symbols<S: Symbol>(out: &mut [u8], at: usize, symbols: &[S])
     for (i, s) in symbols.iter().enumerate() {
         out[at + i] = s.write();
     }
+}
+
+/// Refuses an output that is too short.
+pub(crate) fn has_room(out: &[u8], needed: usize) -> Result<(), TooShort>
+    ensures { λ r. ⌜ Cases r (λ _. needed ≤ length (now (out .entry))) (λ f. (length (now (out .entry)) < needed) × (f .needed ≡ needed)) ⌝ }
+{
+    if out.len() < needed {
+        return Err(TooShort { needed });
+    }
+    Ok(())
 }

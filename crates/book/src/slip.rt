@@ -12,14 +12,14 @@ use notation::Symbol;
 use std::marker::PhantomData;
 ghost use mathlib.Core.Bool.{true, false};
 ghost use mathlib.Core.Path.{_≡_};
-ghost use Prim.Native.Nat.{ℕ, _≤_};
+ghost use Prim.Native.Nat.{ℕ, _-_, _≤_};
 ghost use lib.ListN.{length, getD};
 ghost use Rattle.std.specs.Options.{Cases as BySome};
 ghost use Rattle.std.specs.Results.{Cases};
 ghost use Rattle.std.specs.declared.option.Option.the-variants.{Some, None};
 ghost use Rattle.book.specs.Faults.{slip-told};
 ghost use Rattle.book.specs.Slips.{Inquiry, slip-refusal, slip-fields, asked};
-ghost use Rattle.book.specs.SlipReading.{SlipReading, Asks, NoteTold, mode-number, price-number};
+ghost use Rattle.book.specs.SlipReading.{SlipReading, Asks, NoteTold, mode-number, price-number, has-note};
 
 /// At which price a question is asked.
 #[derive(Clone, Copy)]
@@ -93,10 +93,21 @@ impl<'a, S: Symbol> Slip<'a, S> {
     pub fn note(&self, n: usize) -> Option<S>
         ensures { λ r. ⌜ ((q : Inquiry) → Asks kind (now (self .entry)) q → NoteTold byte q n r) ⌝ }
     {
-        if n < 1 || n > self.query.len() {
+        match self.note_byte(n) {
+            Some(b) => S::read(b),
+            None => None,
+        }
+    }
+
+    /// The byte of a note.
+    fn note_byte(&self, n: usize) -> Option<u8>
+        ensures { λ r. ⌜ BySome r (has-note (now (now (self .entry) .query)) n ≡ false) (λ b. (has-note (now (now (self .entry) .query)) n ≡ true) × (b ≡ getD (now (now (self .entry) .query)) (n - 1) 0)) ⌝ }
+    {
+        let bytes = self.query;
+        if n < 1 || n > bytes.len() {
             return None;
         }
-        S::read(self.query[n - 1])
+        Some(bytes[n - 1])
     }
 }
 

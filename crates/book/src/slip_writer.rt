@@ -2,7 +2,7 @@
 
 use super::fault::SlipWriteFault;
 use super::fault::SlipWriteFaultOfOutput;
-use super::fault::TooShort;
+use super::sealing::has_room;
 use super::sealing::put_symbols;
 use super::sealing::put_two;
 use super::sealing::seal;
@@ -12,7 +12,6 @@ ghost use mathlib.Core.List.{map};
 ghost use mathlib.Core.Path.{_≡_};
 ghost use Prim.Native.Nat.{ℕ, _<_, _≤_};
 ghost use lib.ListN.{length};
-ghost use Rattle.std.specs.Results.{Cases};
 ghost use Rattle.book.specs.Blocks.{block-bytes, slip-letter};
 ghost use Rattle.book.specs.Slips.{in-range, slip-payload, posed};
 ghost use Rattle.book.specs.SlipReading.{SlipWritten};
@@ -47,15 +46,6 @@ fn is_in_range(limit: u32, mode: u32, price: u32, notes: usize) -> bool
     ensures { λ r. ⌜ r ≡ in-range limit mode price notes ⌝ }
 {
     limit <= 4095 && mode <= 1 && (1 <= price && price <= 2) && (1 <= notes && notes <= 64)
-}
-
-fn has_room(out: &[u8], needed: usize) -> Result<(), TooShort>
-    ensures { λ r. ⌜ Cases r (λ _. needed ≤ length (now (out .entry))) (λ f. (length (now (out .entry)) < needed) × (f .needed ≡ needed)) ⌝ }
-{
-    if out.len() < needed {
-        return Err(TooShort { needed });
-    }
-    Ok(())
 }
 
 fn put_slip<S: Symbol>(out: &mut [u8], limit: u16, mode: u8, price: u8, query: &[S])

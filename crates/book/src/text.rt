@@ -5,6 +5,7 @@ use super::fault::DescribeFaultOfMemory;
 use super::fault::DescribeFaultOfOutput;
 use super::fault::TooShort;
 use super::refusal::Refusal;
+use super::sealing::has_room;
 use super::view::Book;
 use notation::Pitch;
 use notation::PitchClass;
@@ -72,9 +73,7 @@ pub fn put_text(text: &[u8], out: &mut [u8]) -> Result<usize, TooShort>
     ensures { λ r. ⌜ Written (now (text .entry)) (now (out .entry)) (now (out .exit)) r ⌝ }
 {
     let needed = text.len();
-    if out.len() < needed {
-        return Err(TooShort { needed });
-    }
+    has_room(out, needed)?;
     out[0..needed].copy_from_slice(text);
     Ok(needed)
 }

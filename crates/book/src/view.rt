@@ -10,7 +10,7 @@ ghost use mathlib.Core.Path.{_≡_};
 ghost use Prim.Native.Nat.{ℕ};
 ghost use Rattle.std.specs.Options.{Cases as BySome};
 ghost use Rattle.book.specs.Grids.{Grid};
-ghost use Rattle.book.specs.Reading.{Reading, Holds, Told, has-place, byte-place};
+ghost use Rattle.book.specs.Reading.{Reading, Holds, Told, has-place, byte-place, CellTold};
 
 /// A book of the kind `S` that was read: its bytes, as the score that they hold.
 #[derive(Drop)]
@@ -51,21 +51,31 @@ impl<'a, S: Symbol> Book<'a, S> {
     pub fn symbol(&self, column: usize, track: usize) -> Option<S>
         ensures { λ r. ⌜ ((g : Grid) → Holds kind (now (self .entry)) g → Told byte g column track r) ⌝ }
     {
+        match self.cell(column, track) {
+            Some(b) => S::read(b),
+            None => None,
+        }
+    }
+
+    /// The byte of a place.
+    fn cell(&self, column: usize, track: usize) -> Option<u8>
+        ensures { λ r. ⌜ CellTold (now (now (self .entry) .input)) (now (self .entry) .shape .tracks) (now (self .entry) .shape .columns) column track r ⌝ }
+    {
         let Some(at) = self.place(column, track) else {
             return None;
         };
         if at >= self.input.len() {
             return None;
         }
-        S::read(self.input[at])
+        Some(self.input[at])
     }
 
     /// Where in the input the byte of a place stands.
     fn place(&self, column: usize, track: usize) -> Option<usize>
         ensures { λ r. ⌜ BySome r (has-place (now (self .entry) .shape .tracks) (now (self .entry) .shape .columns) column track ≡ false) (λ at. (has-place (now (self .entry) .shape .tracks) (now (self .entry) .shape .columns) column track ≡ true) × (at ≡ byte-place (now (self .entry) .shape .tracks) column track)) ⌝ }
     {
-        let tracks = self.shape.tracks as usize;
-        if column < 1 || column > self.shape.columns as usize || track < 1 || track > tracks {
+        let tracks = usize::from(self.shape.tracks);
+        if column < 1 || column > usize::from(self.shape.columns) || track < 1 || track > tracks {
             return None;
         }
         let a_block = 502 / tracks * tracks;

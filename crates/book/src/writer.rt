@@ -2,12 +2,13 @@
 
 use super::fault::TooShort;
 use super::grid::Grid;
+use super::sealing::has_room;
 use super::sealing::put_symbols;
 use super::sealing::seal;
 use notation::Symbol;
 ghost use mathlib.Core.List.{_∷_, _++_, map};
 ghost use mathlib.Core.Path.{_≡_};
-ghost use Prim.Native.Nat.{_+_, _*_, _<_, _≤_};
+ghost use Prim.Native.Nat.{_+_, _*_, _<_, _≤_, min};
 ghost use lib.ListN.{length, take, drop};
 ghost use Rattle.book.specs.Blocks.{two, block-bytes, title-letter, columns-letter};
 ghost use Rattle.book.specs.Grids.{spelled, bytes-of, blocks-for, column-blocks};
@@ -18,19 +19,16 @@ impl<S: Symbol> Grid<'_, S> {
     pub fn write(&self, out: &mut [u8]) -> Result<usize, TooShort>
         ensures { λ r. ⌜ Written (bytes-of kind (spelled byte (now (self .entry) .tracks) (now (self .entry) .columns) (now (now (self .entry) .symbols)))) (now (out .entry)) (now (out .exit)) r ⌝ }
     {
-        let a_block = 502 / self.tracks;
-        let blocks = (self.columns + (a_block - 1)) / a_block;
+        let blocks = blocks_for(self.tracks, self.columns);
         let needed = 512 * (1 + blocks);
-        if out.len() < needed {
-            return Err(TooShort { needed });
-        }
+        has_room(out, needed)?;
         write_title(
             &mut out[0..512],
             S::number(),
             self.tracks as u8,
             self.columns as u16,
         );
-        write_columns::<S>(out, self.symbols, a_block * self.tracks, blocks);
+        write_columns::<S>(out, self.symbols, 502 / self.tracks * self.tracks, blocks);
         Ok(needed)
     }
 }
@@ -62,12 +60,28 @@ fn write_columns<S: Symbol>(out: &mut [u8], symbols: &[S], a_block: usize, block
 {
     for m in 0..blocks {
         let n = m + 1;
-        let from = (m * a_block).min(symbols.len());
-        let to = (from + a_block).min(symbols.len());
+        let from = bound(m * a_block, symbols.len());
+        let to = bound(from + a_block, symbols.len());
         write_block::<S>(
             &mut out[512 * n..512 * n + 512],
             n as u16,
             &symbols[from..to],
         );
     }
+}
+
+/// The blocks that hold so many columns, the last of them perhaps not full.
+fn blocks_for(tracks: usize, columns: usize) -> usize
+    requires { ⌜ 1 ≤ tracks ⌝ ∗ ⌜ tracks ≤ 16 ⌝ ∗ ⌜ columns ≤ 4096 ⌝ }
+    ensures { λ r. ⌜ (r ≡ blocks-for tracks columns) × (r < 65536) ⌝ }
+{
+    let a_block = 502 / tracks;
+    (columns + (a_block - 1)) / a_block
+}
+
+/// A place among symbols, or their end where it lies past them.
+fn bound(at: usize, length: usize) -> usize
+    ensures { λ r. ⌜ r ≡ min at length ⌝ }
+{
+    if at < length { at } else { length }
 }

@@ -2,7 +2,7 @@
 use mathlib.Core.Path.{_≡_, refl, subst}
 use mathlib.Core.List.{List}
 use mathlib.Core.Logic.{inl, inr}
-use Prim.Native.Nat.{ℕ, _≤_, min}
+use Prim.Native.Nat.{ℕ, _≤_, _<_, min}
 use native.Mathlib.Omega.{arith}
 use lib.ListN.{length}
 use Rattle.std.proofs.shelf.Tests.{cases-lt}
@@ -34,6 +34,9 @@ module _ {P : Type 0} (p : Pricing) (meaning : P → p .Meaning) (xs : List (Ent
           ahead = t .ahead;
           nearest = λ i d n. omega (arith, old .lowest i d n, t .nearest);
         }
+
+    pub onward : (s .position < from → ⊥) → from ≤ h .position
+    onward not = elim (cases-lt (h .position) from) [ inl later ↦ absurd (not (omega (arith, old .position))) | inr l ↦ l ]
 
     -- what the span does not take may not be put in, or finds the memory full
     pub refused : (e : Entry P) → e .position ≤ 4294967295 → length xs ≡ h .memory → (Takes s from (e .position) (length xs) → ⊥) → Accepts h from e → (length xs ≤ s .back) × (h .memory ≤ length (h .puts))

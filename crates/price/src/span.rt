@@ -142,12 +142,12 @@ pub(super) fn lead<P: Price>(
     } else {
         None
     };
-    let moved = Span {
+    let led = Span {
         front,
         back,
         position: from,
         last: span.last,
         limit: span.limit,
     };
-    (moved, told)
+    (led, told)
 }

@@ -61,8 +61,8 @@ impl<'a, P: Price> Window<'a, P> {
         if span.has_passed(from) {
             return Err(Passed);
         }
-        let (moved, told) = lead(self.entries, span, from);
-        self.span = moved;
+        let (led, told) = lead(self.entries, span, from);
+        self.span = led;
         Ok(told)
     }
 }

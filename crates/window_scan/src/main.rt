@@ -25,6 +25,15 @@ const CASES: u32 = 3_000;
 // How many calls a case makes, and so how many entries it can put in.
 const CALLS: u32 = 24;
 
+// What a case tries: the limit, how far apart the positions lie, and for how many entries the
+// window has memory.
+#[derive(Clone, Copy)]
+struct Setting {
+    limit: u32,
+    stride: u32,
+    room: u32,
+}
+
 // A price charged at random, at most three times.
 fn any_price<P: Price>(random: &mut Random) -> P {
     let mut price = P::empty();
@@ -48,7 +57,10 @@ fn put_one<P: Price>(
             tally.count(Outcome::Put, may);
             model.put(from, entry)?;
         }
-        Err(back) => tally.count(Outcome::Returned, !may && back.place == entry.place),
+        Err(back) => {
+            let owed = !may || model.is_full();
+            tally.count(Outcome::Returned, owed && back.place == entry.place);
+        }
     }
     Ok(())
 }
@@ -67,15 +79,15 @@ fn ask_one<P: Price>(window: &mut Window<P>, model: &mut Model<P>, from: u32, ta
     }
 }
 
-// Memory for as many entries as a case can put in.
-fn memory_for<P: Price>(heap: Global) -> Result<Vec<Entry<P>>, AllocError> {
+// Memory for so many entries.
+fn memory_for<P: Price>(heap: Global, room: u32) -> Result<Vec<Entry<P>>, AllocError> {
     let blank = Entry {
         position: 0,
         place: 0,
         price: P::empty(),
     };
     let mut memory = Vec::new(heap);
-    for _ in 0..CALLS {
+    for _ in 0..room {
         memory.push(blank)?;
     }
     Ok(memory)
@@ -85,20 +97,19 @@ fn memory_for<P: Price>(heap: Global) -> Result<Vec<Entry<P>>, AllocError> {
 fn run_case<P: Price>(
     heap: Global,
     random: &mut Random,
-    limit: u32,
-    stride: u32,
+    setting: Setting,
     tally: &mut Tally,
 ) -> Result<(), AllocError> {
-    let mut memory = memory_for::<P>(heap)?;
-    let mut window = Window::new(&mut memory, limit);
-    let mut model = Model::new(heap, limit);
+    let mut memory = memory_for::<P>(heap, setting.room)?;
+    let mut window = Window::new(&mut memory, setting.limit);
+    let mut model = Model::new(heap, setting.limit, setting.room);
     let mut from: u32 = 4_000;
     for place in 0..CALLS {
         from = from.saturating_add(random.below(2));
-        from = from.saturating_sub(random.below(4).saturating_mul(stride));
+        from = from.saturating_sub(random.below(4).saturating_mul(setting.stride));
         if random.below(2) == 0 {
             let entry = Entry {
-                position: from.saturating_add(random.below(5).saturating_mul(stride)),
+                position: from.saturating_add(random.below(5).saturating_mul(setting.stride)),
                 place,
                 price: any_price(random),
             };
@@ -113,12 +124,16 @@ fn run_case<P: Price>(
 fn run_cases<P: Price>(heap: Global, seed: u64) -> Result<Tally, AllocError> {
     let limits = [0, 1, 7, 4_094, u32::MAX];
     let strides = [1, 2, 40];
+    let rooms = [CALLS, CALLS, CALLS, 3];
     let mut random = Random::new(seed);
     let mut tally = Tally::new();
     for case in 0..CASES {
-        let limit = limits[case as usize % 5];
-        let stride = strides[case as usize % 3];
-        run_case::<P>(heap, &mut random, limit, stride, &mut tally)?;
+        let setting = Setting {
+            limit: limits[case as usize % 5],
+            stride: strides[case as usize % 3],
+            room: rooms[case as usize % 4],
+        };
+        run_case::<P>(heap, &mut random, setting, &mut tally)?;
         tally.count_case();
     }
     Ok(tally)

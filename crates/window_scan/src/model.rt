@@ -5,12 +5,13 @@ use price::Price;
 use std::alloc::AllocError;
 use std::alloc::Global;
 
-/// All entries put in, the first one first, and the position reached.
+/// All entries put in, the first one first, the position reached, the limit, and the room.
 #[derive(Drop)]
 pub(super) struct Model<P: Drop> {
     puts: Vec<Entry<P>>,
     position: u32,
     limit: u32,
+    room: u32,
 }
 
 fn gap(from: u32, position: u32) -> u32 {
@@ -57,11 +58,12 @@ fn nearest<P: Price>(puts: &[Entry<P>], position: u32) -> bool {
 }
 
 impl<P: Price> Model<P> {
-    pub(super) fn new(heap: Global, limit: u32) -> Model<P> {
+    pub(super) fn new(heap: Global, limit: u32, room: u32) -> Model<P> {
         Model {
             puts: Vec::new(heap),
             position: u32::MAX,
             limit,
+            room,
         }
     }
 
@@ -71,6 +73,11 @@ impl<P: Price> Model<P> {
 
     pub(super) fn may_put(&self, from: u32, entry: Entry<P>) -> bool {
         from <= self.position && from < entry.position && nearest(&self.puts, entry.position)
+    }
+
+    // Whether as many entries were put in as there is room for, so that one may be returned.
+    pub(super) fn is_full(&self) -> bool {
+        self.puts.len() >= self.room as usize
     }
 
     pub(super) fn put(&mut self, from: u32, entry: Entry<P>) -> Result<(), AllocError> {

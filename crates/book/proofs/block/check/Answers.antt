@@ -7,8 +7,8 @@ use Rattle.book.specs.Blocks.{weighted}
 use Rattle.book.proofs.Sums.{weighted-more}
 use Rattle.book.proofs.block.check.Needs as need
 
-pub add-sum-in-loop-i : need.add-sum-in-loop-i
-add-sum-in-loop-i c =
+pub add-sum : need.add-sum
+add-sum c =
     let i = c .loop-i .i in
     let b = getD (c .args .bytes .now) i 0 in
     omega (arith, mul-le (i + 1) b 508 255 (omega arith) (omega arith))

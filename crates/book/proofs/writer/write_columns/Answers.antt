@@ -18,5 +18,5 @@ loop-m-again g c =
     let f = g .S·Symbol .byte in
     let kind = g .S·Symbol .kind .number in
     let symbols = c .args .symbols .now in
-    let part = ap (map f) (cut-part symbols (m * w) w (c .min-from .result) (c .min-to .result) (c .min-from .ensures) (c .min-to .ensures)) ∙ sym (take-map f w (drop (m * w) symbols)) ∙ ap (take w) (sym (drop-map f (m * w) symbols)) in
+    let part = ap (map f) (cut-part symbols (m * w) w (c .bound-from .result) (c .bound-to .result) (c .bound-from .ensures) (c .bound-to .ensures)) ∙ sym (take-map f w (drop (m * w) symbols)) ∙ ap (take w) (sym (drop-map f (m * w) symbols)) in
     block-more kind w m (512 * (m + 1) + 512 - 512 * (m + 1)) (map f symbols) (c .args .out .now) (c .loop-m .out) (c .write-block .last .out) (omega arith) (omega arith) (omega arith) (c .loop-m .inv) (c .write-block .ensures ∙ ap (block-bytes columns-letter kind (m + 1)) part)
