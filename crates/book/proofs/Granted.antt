@@ -114,15 +114,15 @@ module _ (k : Kind) (s : Shape) (some : 1 ≤ s .tracks) (few : s .tracks ≤ 16
       let e2 = then-parts (turn-refusal k (opened s read) n b) _ (e1 .1) in
       let own = block-kept n b (e1 .0) in
       let turn = open-turn k s read n b (ltb read (s .columns)) refl (e2 .0) in
-      let q1 = unless-none (eqb (letter b) columns-letter) _ _ (turn .1) in
-      let q2 = unless-none (expected k n b) _ _ (q1 .1) in
-      let q3 = unless-none (eqb (payload-length b) (due s read * t)) _ _ (q2 .1) in
-      let here = expected-kept k n b (q2 .0) in
+      let marked = unless-none (eqb (letter b) columns-letter) _ _ (turn .1) in
+      let numbered = unless-none (expected k n b) _ _ (marked .1) in
+      let measured = unless-none (eqb (payload-length b) (due s read * t)) _ _ (numbered .1) in
+      let here = expected-kept k n b (numbered .0) in
       let lb : length b ≡ 512 = length-take-le 512 rest (omega arith) in
       let bs : Bytes b = bytes-take rest 512 bytes in
-      let lp : length p ≡ due s read * t = length-payload b lb bs (own .2) ∙ eqb-true (payload-length b) (due s read * t) (q3 .0) in
+      let lp : length p ≡ due s read * t = length-payload b lb bs (own .2) ∙ eqb-true (payload-length b) (due s read * t) (measured .0) in
       let as-block : b ≡ block-bytes columns-letter (k .number) n p =
-      bytes-of-fields b lb bs (own .2) (own .0) ∙ (λ i. block-bytes (eqb-true (letter b) columns-letter (q1 .0) i) (here .1 i) (here .0 i) p) in
+      bytes-of-fields b lb bs (own .2) (own .0) ∙ (λ i. block-bytes (eqb-true (letter b) columns-letter (marked .0) i) (here .1 i) (here .0 i) p) in
       let ih : Written k s next (suc n) more (drop 512 rest) =
       columns-written more (suc n) next (drop 512 rest) (length-drop 512 rest ∙ omega arith) (bytes-drop rest 512 bytes)
       (subst (λ x. blocks-refusal k x (suc n) more (drop 512 rest) ≡ None) (open-after s read b (ltb read (s .columns)) refl (turn .0)) (e2 .1)) in
@@ -134,7 +134,7 @@ module _ (k : Kind) (s : Shape) (some : 1 ≤ s .tracks) (few : s .tracks ≤ 16
             ∙ (λ i. block-bytes columns-letter (k .number) n (sym (c .0) i) ++ column-blocks (k .number) w (suc n) more (sym (c .1) i));
         count = ap suc (ih .count ∙ ap (blocks-for t) (left-over read)) ∙ sym (times-more (s .columns - read) (columns-a-block t) (omega (arith, turn .0)) (some-columns t some few));
         long = length-append p cells ∙ (λ i. lp i + ih .long i) ∙ columns-add read (turn .0);
-        symbols = all-append (λ x. T (readable k x)) p cells (symbols-read k Book (512 * n + 6) p (q3 .1)) (ih .symbols);
+        symbols = all-append (λ x. T (readable k x)) p cells (symbols-read k Book (512 * n + 6) p (measured .1)) (ih .symbols);
       }
 
 in-shape-kept : (s : Shape) → in-shape s ≡ true → (1 ≤ s .tracks) × (s .tracks ≤ 16) × (s .columns ≤ 4096)
@@ -165,18 +165,18 @@ book-written k input bytes e =
     let e1 = then-parts (block-refusal 0 b) _ e0 in
     let e2 = then-parts (title-refusal k 0 b) _ (e1 .1) in
     let own = block-kept 0 b (e1 .0) in
-    let q1 = unless-none (eqb (letter b) title-letter) _ _ (e2 .0) in
-    let q2 = unless-none (expected k 0 b) _ _ (q1 .1) in
-    let q3 = unless-none (eqb (payload-length b) 3 && in-shape (title-shape b)) _ _ (q2 .1) in
-    let q4 = and-parts (eqb (payload-length b) 3) (in-shape (title-shape b)) (q3 .0) in
-    let here = expected-kept k 0 b (q2 .0) in
+    let marked = unless-none (eqb (letter b) title-letter) _ _ (e2 .0) in
+    let numbered = unless-none (expected k 0 b) _ _ (marked .1) in
+    let titled = unless-none (eqb (payload-length b) 3 && in-shape (title-shape b)) _ _ (numbered .1) in
+    let fields = and-parts (eqb (payload-length b) 3) (in-shape (title-shape b)) (titled .0) in
+    let here = expected-kept k 0 b (numbered .0) in
     let lb : length b ≡ 512 = length-take-le 512 input (omega arith) in
     let bs : Bytes b = bytes-take input 512 bytes in
     let shape : title-shape b ≡ s = first-title 0 input refl in
-    let lawful = in-shape-kept s (subst (λ x. in-shape x ≡ true) shape (q4 .1)) in
+    let lawful = in-shape-kept s (subst (λ x. in-shape x ≡ true) shape (fields .1)) in
     let as-title : b ≡ block-bytes title-letter (k .number) 0 (s .tracks ∷ two (s .columns)) =
     bytes-of-fields b lb bs (own .2) (own .0)
-    ∙ (λ i. block-bytes (eqb-true (letter b) title-letter (q1 .0) i) (here .1 i) (here .0 i) (title-payload b lb bs (eqb-true (payload-length b) 3 (q4 .0)) i))
+    ∙ (λ i. block-bytes (eqb-true (letter b) title-letter (marked .0) i) (here .1 i) (here .0 i) (title-payload b lb bs (eqb-true (payload-length b) 3 (fields .0)) i))
     ∙ (λ i. block-bytes title-letter (k .number) 0 (shape i .tracks ∷ two (shape i .columns))) in
     let rest : Written k s 0 1 more (drop 512 input) =
     columns-written k s (lawful .0) (lawful .1) more 1 0 (drop 512 input) (length-drop 512 input ∙ omega arith) (bytes-drop input 512 bytes)

@@ -23,7 +23,7 @@ fn told(heap: Global, refusal: Refusal) -> Result<String, AllocError> {
 
 /// What is told of some bytes as a book of pitches. A book is written again, into an output with room
 /// to spare and into one that is a byte too short.
-pub fn book_case(heap: Global, bytes: &[u8]) -> Result<String, AllocError> {
+pub(crate) fn book_case(heap: Global, bytes: &[u8]) -> Result<String, AllocError> {
     match Book::<Pitch>::read(bytes) {
         Err(fault) => told(heap, fault.refusal()),
         Ok(book) => {
@@ -93,7 +93,7 @@ fn book_short(
 }
 
 /// What is told of some bytes as a slip of pitches. It is written again as a book is.
-pub fn slip_case(heap: Global, bytes: &[u8]) -> Result<String, AllocError> {
+pub(crate) fn slip_case(heap: Global, bytes: &[u8]) -> Result<String, AllocError> {
     match Slip::<Pitch>::read(bytes) {
         Err(fault) => told(heap, fault.refusal()),
         Ok(slip) => {

@@ -10,7 +10,7 @@ use std::alloc::Global;
 const FLIPS: [u8; 3] = [1, 128, 255];
 
 /// How many damages were tried on a book, and how many were refused by 2 with the block damaged.
-pub fn damaged(heap: Global, book: &[u8]) -> Result<(u32, u32), AllocError> {
+pub(crate) fn damaged(heap: Global, book: &[u8]) -> Result<(u32, u32), AllocError> {
     let mut copy = book.to_vec(heap)?;
     let mut tried: u32 = 0;
     let mut refused: u32 = 0;

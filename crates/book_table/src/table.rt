@@ -16,7 +16,7 @@ pub struct Case {
 }
 
 /// The case that begins at a place; none where the table ends.
-pub fn case_at(table: &[u8], at: usize) -> Option<Case>
+pub(crate) fn case_at(table: &[u8], at: usize) -> Option<Case>
     ensures { λ r. ⌜ Cases r (Unit {0}) (λ c. Inside at c (length (now (table .entry)))) ⌝ }
 {
     if table.len() < 5 || at > table.len() - 5 {
