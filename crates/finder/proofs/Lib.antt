@@ -1,0 +1,4 @@
+pub mod Columns
+pub mod ColumnEdits
+pub mod Filled
+pub mod RoundTrip

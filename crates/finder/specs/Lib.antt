@@ -1,0 +1,5 @@
+pub mod Columns
+pub mod Limits
+pub mod ScoreRules
+pub mod Edits
+pub mod Scores
