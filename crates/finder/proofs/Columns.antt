@@ -5,10 +5,11 @@ use Prim.Native.Nat.{ℕ, zero, suc, _+_, _-_, _*_, _<_, _≤_}
 use native.Mathlib.Omega.{arith}
 use native.Mathlib.Nat.{suc-mul}
 use lib.ListN.{length, getD, take, drop}
-use Rattle.std.proofs.shelf.Lists.{getD-take, getD-drop, getD-past, length-take, drop-drop}
+use Rattle.std.proofs.shelf.Lists.{getD-take, getD-drop, getD-past, length-take, length-drop, drop-drop, nil-from-length, take-append-drop}
 use Rattle.notation.specs.Kind.{rest}
 use Rattle.splitting.specs.Score.{Score, symbol}
 use Rattle.finder.specs.Columns.{columns-of}
+use Rattle.finder.specs.Workspace.{symbols}
 
 pub length-columns : {X : Type 0} (tracks n : ℕ) (cells : List X) → length (columns-of tracks n cells) ≡ n
 length-columns tracks zero cells = refl
@@ -32,3 +33,10 @@ symbol-past-columns tracks n cells j t l = ap (λ x. getD x t rest) (getD-past (
 
 pub symbol-past-tracks : (tracks n : ℕ) (cells : List ℕ) (j t : ℕ) → j < n → tracks ≤ t → symbol (columns-of tracks n cells) (suc j) (suc t) ≡ rest
 symbol-past-tracks tracks n cells j t l k = ap (λ x. getD x t rest) (column-at tracks n cells j l) ∙ getD-past (take tracks (drop (j * tracks) cells)) t rest (omega (arith, length-take tracks (drop (j * tracks) cells)))
+
+-- all symbols of the columns, one after another, are the memory again
+pub symbols-of-columns : (tracks n : ℕ) (cells : List ℕ) → length cells ≡ n * tracks → symbols (columns-of tracks n cells) ≡ cells
+symbols-of-columns tracks zero cells e = sym (nil-from-length cells (omega arith))
+symbols-of-columns tracks (suc n) cells e =
+    ap (λ z. take tracks cells ++ z) (symbols-of-columns tracks n (drop tracks cells) (omega (arith, length-drop tracks cells, suc-mul n tracks)))
+    ∙ take-append-drop tracks cells

@@ -2,3 +2,17 @@ pub mod Columns
 pub mod ColumnEdits
 pub mod Filled
 pub mod RoundTrip
+pub mod Refusing
+pub mod Intervals
+pub mod Moving
+pub mod Counts
+pub mod Linking
+pub mod Valuing
+pub mod Feeding
+pub mod Spotting
+pub mod Stepping
+pub mod RowFilling
+pub mod Rowing
+pub mod Bettering
+pub mod Concluding
+pub mod Following

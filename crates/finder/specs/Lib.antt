@@ -3,3 +3,10 @@ pub mod Limits
 pub mod ScoreRules
 pub mod Edits
 pub mod Scores
+pub mod Queries
+pub mod Faults
+pub mod Workspace
+pub mod Tables
+pub mod Rows
+pub mod Resting
+pub mod Topmost

@@ -100,7 +100,7 @@ module _ (ask : Question) (laws : KindLaws (ask .kind)) (d : ℤ) (query : List 
   splits-back c = splits-kept (asking ask query) ask c (follow (ask .kind .following) d c) (sym (moved .as-long)) (omega arith) (matches-back c) (λ a i j t h. refl)
 
 -- one symbol at most is another transposed
-one-symbol : (k : Kind) → KindLaws k → (a b b′ : ℕ) (c : ℤ) → k .interval a b ≡ Some c → k .interval a b′ ≡ Some c → b ≡ b′
+pub one-symbol : (k : Kind) → KindLaws k → (a b b′ : ℕ) (c : ℤ) → k .interval a b ≡ Some c → k .interval a b′ ≡ Some c → b ≡ b′
 one-symbol k laws a b b′ c p q =
     let e = laws .back a b c p in
     let here = laws .chain b a b (e .0) c (e .1) p in
