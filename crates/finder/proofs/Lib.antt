@@ -16,3 +16,4 @@ pub mod Rowing
 pub mod Bettering
 pub mod Concluding
 pub mod Following
+pub mod Trailing
