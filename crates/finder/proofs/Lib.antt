@@ -17,3 +17,4 @@ pub mod Bettering
 pub mod Concluding
 pub mod Following
 pub mod Trailing
+pub mod Beginning

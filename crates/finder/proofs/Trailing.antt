@@ -11,7 +11,7 @@ use lib.ListN.{length, getD, set, drop}
 use lib.Seq.{drop-cons}
 use Rattle.std.specs.Options.{mapped}
 use Rattle.std.specs.declared.option.Option.{Option}
-use Rattle.std.specs.declared.option.Option.the-variants.{Some, None}
+use Rattle.std.specs.declared.option.Option.the-variants.{Some}
 use Rattle.std.specs.shelf.Lists.{sumBy, countBy}
 use Rattle.std.proofs.shelf.Bits.{div-mul-add, mod-mul-add, mod-below, div-add-mod'}
 use Rattle.std.proofs.shelf.Lists.{append-assoc, length-append, set-at}
