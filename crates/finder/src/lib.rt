@@ -6,6 +6,7 @@ mod fault;
 mod filling;
 mod limit;
 mod limit_fault;
+mod pieces;
 mod query;
 mod row;
 mod rows;
