@@ -16,3 +16,5 @@ pub mod Rowing
 pub mod Bettering
 pub mod Concluding
 pub mod Following
+pub mod Preferring
+pub mod Leading

@@ -10,3 +10,4 @@ pub mod Tables
 pub mod Rows
 pub mod Resting
 pub mod Topmost
+pub mod Candidates
