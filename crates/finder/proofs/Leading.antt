@@ -162,6 +162,18 @@ module _ (bytes query counts : List ℕ) (kind : Kind) (mode : Mode) (limit trac
     pub wanted : (want : List ℕ) → length want ≡ length query → ((k : ℕ) → k < length query → kind .interval (getD query k rest) (getD want k 0) ≡ Some by) → Wanted ask by want
     wanted want e each = record { as-long = e ∙ sym (ap length (asked .query-is)); each = λ k l. intervals (suc k) (getD want k 0) ∙ each k (omega arith) }
 
+    -- some note wants a byte that the score does not hold
+    pub unheld : (want : List ℕ) → length want ≡ length query → ((k : ℕ) → k < length query → kind .interval (getD query k rest) (getD want k 0) ≡ Some by) → (k : ℕ) → k < length want → getD counts (getD want k 0) 0 ≡ 0 → Among m meaning ask tracks b (b + 1) None
+    unheld want as-long each k l none =
+        λ c x a led admits r.
+        let f = later-match r (suc k) (omega arith) (omega (arith, ap length (asked .query-is))) in
+        let d = getD want k 0 in
+        let at : ask .kind .interval (note (ask .query) (suc k)) d ≡ Some c = intervals (suc k) d ∙ each k (omega arith) ∙ ap Some (sym (same-shift c led)) in
+        let is = one-symbol (ask .kind) (asked .posed .covered .kind-laws) (note (ask .query) (suc k)) (symbol (ask .score) (f .0) (f .1)) d c (f .2) at in
+        let sound = sounds ask bytes tracks one (asked .posed) (note (ask .query) (suc k)) d c at in
+        let some = there ask bytes tracks one (asked .posed) (f .0) (f .1) d is (λ z. omega arith) in
+        omega (arith, counted d (omega arith))
+
     pub none-under : BestUnder m meaning ask by tracks None → Among m meaning ask tracks b (b + 1) None
     none-under none = λ c x a led admits r. none x a (subst (λ z. Rest m ask z 1 (x .column) (x .track) a) (same-shift c led) r)
 

@@ -8,10 +8,11 @@ use notation::Mode;
 use notation::Symbol;
 use price::Entry;
 use price::Price;
+ghost use mathlib.Core.Bool.{false};
 ghost use mathlib.Core.List.{map};
 ghost use mathlib.Core.Path.{_≡_};
-ghost use Prim.Native.Nat.{ℕ, _+_, _≤_};
-ghost use lib.ListN.{length};
+ghost use Prim.Native.Nat.{ℕ, _+_, _≤_, _<_};
+ghost use lib.ListN.{length, getD};
 ghost use Rattle.splitting.specs.Score.{Question, note};
 ghost use Rattle.splitting.specs.Laws.{Covered};
 ghost use Rattle.finder.specs.Candidates.{Asked, CandidateTo, Decided, Among, OfAll};
@@ -42,6 +43,18 @@ fn candidate_to<S: Symbol>(counts: &[u32; 256], mode: Mode, query: &[S], b: u8) 
         return None;
     };
     if admits(mode, by) { Some(by) } else { None }
+}
+
+// Whether the score holds every byte that is wanted.
+fn all_held(counts: &[u32; 256], want: &[u8]) -> bool
+    ensures { λ r. ⌜ (r ≡ false → (k : ℕ) × (k < length (now (want .entry))) × (getD (now (counts .entry)) (getD (now (want .entry)) k 0) 0 ≡ 0)) ⌝ }
+{
+    for b in want {
+        if counts[*b as usize] == 0 {
+            return false;
+        }
+    }
+    true
 }
 
 // Whether a choice is preferred to another: it is cheaper, or as cheap and at no later place.
@@ -100,6 +113,9 @@ fn best_to<S: Symbol, P: Price>(
         return None;
     };
     if !want_bytes(query, by, want) {
+        return None;
+    }
+    if !all_held(counts, want) {
         return None;
     }
     let Some(best) = best_under(ground, last, counts, want, limit, prices, steps, entries) else {
