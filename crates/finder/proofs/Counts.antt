@@ -125,7 +125,7 @@ top-le size n (suc i) h = let m = top-le size n i h in let s = h i in omega arit
 count-cons : (b x : ℕ) (cells : List ℕ) → countBy (eqb b) (x ∷ cells) ≡ cond (eqb b x) 1 0 + countBy (eqb b) cells
 count-cons b x cells = sumBy-cons (λ x. cond (eqb b x) 1 0) x cells
 
-counted-le : (size : ℕ → ℕ) (b : ℕ) (cells : List ℕ) → 0 < countBy (eqb b) cells → size b ≤ greatest size cells
+pub counted-le : (size : ℕ → ℕ) (b : ℕ) (cells : List ℕ) → 0 < countBy (eqb b) cells → size b ≤ greatest size cells
 counted-le size b [] l = absurd (omega arith)
 counted-le size b (x ∷ cells) l =
     elim (cases-eq b x) [

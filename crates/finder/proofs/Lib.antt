@@ -18,3 +18,5 @@ pub mod Concluding
 pub mod Following
 pub mod Trailing
 pub mod Beginning
+pub mod Preferring
+pub mod Leading

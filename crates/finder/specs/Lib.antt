@@ -11,3 +11,4 @@ pub mod Rows
 pub mod Resting
 pub mod Topmost
 pub mod Trails
+pub mod Candidates

@@ -1,5 +1,6 @@
 //! Scores, the terms of a search, and the search.
 
+mod candidates;
 mod choosing;
 mod editing;
 mod fault;

@@ -1,0 +1,172 @@
+//! The cheapest rest of a query over all candidate transpositions.
+
+use super::size::admits;
+use super::table::Ground;
+use super::topping::best_under;
+use super::wanting::want_bytes;
+use notation::Mode;
+use notation::Symbol;
+use price::Entry;
+use price::Price;
+ghost use mathlib.Core.Bool.{false};
+ghost use mathlib.Core.List.{map};
+ghost use mathlib.Core.Path.{_≡_};
+ghost use Prim.Native.Nat.{ℕ, _+_, _≤_, _<_};
+ghost use lib.ListN.{length, getD};
+ghost use Rattle.splitting.specs.Score.{Question, note};
+ghost use Rattle.splitting.specs.Laws.{Covered};
+ghost use Rattle.finder.specs.Candidates.{Asked, CandidateTo, Decided, Among, OfAll};
+ghost use Rattle.finder.specs.Tables.{Surveyed, Marks};
+ghost use Rattle.finder.specs.Workspace.{Counted, workspace};
+
+/// A price, the place that it stands at, and the transposition that it stands under.
+#[derive(Clone, Copy)]
+pub(crate) struct Choice<P> {
+    pub(crate) price: P,
+    pub(crate) place: usize,
+    pub(crate) shift: i32,
+}
+
+// The candidate that leads from the first note to a byte, if there is one.
+fn candidate_to<S: Symbol>(counts: &[u32; 256], mode: Mode, query: &[S], b: u8) -> Option<i32>
+    requires { ⌜ 1 ≤ length (now query) ⌝ }
+    ensures { λ r. ⌜ CandidateTo kind mode (now (counts .entry)) (note (map byte (now (query .entry))) 1) b r ⌝ }
+{
+    if counts[b as usize] == 0 {
+        return None;
+    }
+    let Some(s) = S::read(b) else {
+        return None;
+    };
+    let first = query[0];
+    let Some(by) = first.interval(s) else {
+        return None;
+    };
+    if admits(mode, by) { Some(by) } else { None }
+}
+
+// Whether the score holds every byte that is wanted.
+fn all_held(counts: &[u32; 256], want: &[u8]) -> bool
+    ensures { λ r. ⌜ (r ≡ false → (k : ℕ) × (k < length (now (want .entry))) × (getD (now (counts .entry)) (getD (now (want .entry)) k 0) 0 ≡ 0)) ⌝ }
+{
+    for b in want {
+        if counts[*b as usize] == 0 {
+            return false;
+        }
+    }
+    true
+}
+
+// Whether a choice is preferred to another: it is cheaper, or as cheap and at no later place.
+fn comes_first<P: Price>(one: Choice<P>, other: Choice<P>) -> bool
+    ensures { λ r. ⌜ (pricing .depth (meaning (one .price)) ≤ 63 → pricing .depth (meaning (other .price)) ≤ 63 → Decided pricing meaning one other r) ⌝ }
+{
+    if one.price.not_above(other.price) {
+        if one.place <= other.place {
+            true
+        } else {
+            !other.price.not_above(one.price)
+        }
+    } else {
+        false
+    }
+}
+
+// The better of two choices: the cheaper one, of equals the one at the earlier place.
+fn preferred<P: Price>(one: Option<Choice<P>>, other: Option<Choice<P>>) -> Option<Choice<P>>
+    ensures { λ r. ⌜ ((ask : Question) (tracks low mid high : ℕ) → Covered ask → 1 ≤ tracks → Among pricing meaning ask tracks low mid one → Among pricing meaning ask tracks mid high other → Among pricing meaning ask tracks low high r) ⌝ }
+{
+    let Some(a) = one else {
+        return other;
+    };
+    let Some(b) = other else {
+        return Some(a);
+    };
+    if comes_first(a, b) { Some(a) } else { Some(b) }
+}
+
+// The cheapest rest of the whole query under the candidate that leads from the first note to a byte.
+fn best_to<S: Symbol, P: Price>(
+    ground: Ground<S>,
+    last: &[u32; 256],
+    counts: &[u32; 256],
+    mode: Mode,
+    query: &[S],
+    b: u8,
+    limit: u32,
+    want: &mut [u8],
+    prices: &mut [Option<P>],
+    steps: &mut [u32],
+    entries: &mut [Entry<P>],
+) -> Option<Choice<P>>
+    requires { ⌜ Surveyed byte ground ⌝ }
+    requires { ⌜ Marks (map byte (now (ground .cells))) (now last) (length (map byte (now (ground .cells)))) ⌝ }
+    requires { ⌜ Counted (now counts) (map byte (now (ground .cells))) ⌝ }
+    requires { ⌜ 1 ≤ length (now query) ⌝ }
+    requires { ⌜ length (now want) ≡ length (now query) ⌝ }
+    requires { ⌜ workspace kind mode (map byte (now (ground .cells))) (map byte (now query)) ≤ length (now prices) ⌝ }
+    requires { ⌜ workspace kind mode (map byte (now (ground .cells))) (map byte (now query)) ≤ length (now steps) ⌝ }
+    requires { ⌜ workspace kind mode (map byte (now (ground .cells))) (map byte (now query)) ≤ length (now entries) ⌝ }
+    ensures { λ r. ⌜ ((ask : Question) → Asked ask (map byte (now (ground .entry .cells))) (ground .entry .tracks) kind mode limit (map byte (now (query .entry))) → Among pricing meaning ask (ground .entry .tracks) b (b + 1) r) ⌝ }
+{
+    let Some(by) = candidate_to(counts, mode, query, b) else {
+        return None;
+    };
+    if !want_bytes(query, by, want) {
+        return None;
+    }
+    if !all_held(counts, want) {
+        return None;
+    }
+    let Some(best) = best_under(ground, last, counts, want, limit, prices, steps, entries) else {
+        return None;
+    };
+    Some(Choice {
+        price: best.price,
+        place: best.place,
+        shift: by,
+    })
+}
+
+// The cheapest rest of the whole query over all candidates, of equals the one that begins earliest.
+pub(crate) fn best_of_all<S: Symbol, P: Price>(
+    ground: Ground<S>,
+    last: &[u32; 256],
+    counts: &[u32; 256],
+    mode: Mode,
+    query: &[S],
+    limit: u32,
+    want: &mut [u8],
+    prices: &mut [Option<P>],
+    steps: &mut [u32],
+    entries: &mut [Entry<P>],
+) -> Option<Choice<P>>
+    requires { ⌜ Surveyed byte ground ⌝ }
+    requires { ⌜ Marks (map byte (now (ground .cells))) (now last) (length (map byte (now (ground .cells)))) ⌝ }
+    requires { ⌜ Counted (now counts) (map byte (now (ground .cells))) ⌝ }
+    requires { ⌜ 1 ≤ length (now query) ⌝ }
+    requires { ⌜ length (now want) ≡ length (now query) ⌝ }
+    requires { ⌜ workspace kind mode (map byte (now (ground .cells))) (map byte (now query)) ≤ length (now prices) ⌝ }
+    requires { ⌜ workspace kind mode (map byte (now (ground .cells))) (map byte (now query)) ≤ length (now steps) ⌝ }
+    requires { ⌜ workspace kind mode (map byte (now (ground .cells))) (map byte (now query)) ≤ length (now entries) ⌝ }
+    ensures { λ r. ⌜ ((ask : Question) → Asked ask (map byte (now (ground .entry .cells))) (ground .entry .tracks) kind mode limit (map byte (now (query .entry))) → OfAll pricing meaning ask (ground .entry .tracks) r) ⌝ }
+{
+    let mut best = None;
+    for b in 0..256usize {
+        let here = best_to(
+            ground,
+            last,
+            counts,
+            mode,
+            query,
+            b as u8,
+            limit,
+            want,
+            prices,
+            steps,
+            entries,
+        );
+        best = preferred(best, here);
+    }
+    best
+}
