@@ -8,7 +8,7 @@ use notation::Mode;
 use notation::Symbol;
 use price::Entry;
 use price::Price;
-ghost use mathlib.Core.Bool.{false};
+ghost use mathlib.Core.Bool.{true, false};
 ghost use mathlib.Core.List.{map};
 ghost use mathlib.Core.Path.{_≡_};
 ghost use Prim.Native.Nat.{ℕ, _+_, _≤_, _<_};
@@ -47,7 +47,8 @@ fn candidate_to<S: Symbol>(counts: &[u32; 256], mode: Mode, query: &[S], b: u8) 
 
 // Whether the score holds every byte that is wanted.
 fn all_held(counts: &[u32; 256], want: &[u8]) -> bool
-    ensures { λ r. ⌜ (r ≡ false → (k : ℕ) × (k < length (now (want .entry))) × (getD (now (counts .entry)) (getD (now (want .entry)) k 0) 0 ≡ 0)) ⌝ }
+    ensures each { λ r. ⌜ (r ≡ true → (k : ℕ) → k < length (now (want .entry)) → 0 < getD (now (counts .entry)) (getD (now (want .entry)) k 0) 0) ⌝ }
+    ensures lacking { λ r. ⌜ (r ≡ false → (k : ℕ) × (k < length (now (want .entry))) × (getD (now (counts .entry)) (getD (now (want .entry)) k 0) 0 ≡ 0)) ⌝ }
 {
     for b in want {
         if counts[*b as usize] == 0 {

@@ -50,7 +50,7 @@ returns-then-not-all-held g c =
     let want = c .want-bytes .last .want in
     let n = length-map (now (c .args .query)) (g .S·Symbol .byte) in
     let as-long : length want ≡ length query = omega (arith, c .want-bytes .kept .want, c .pre .4) in
-    let lacking = c .all-held .ensures (c .if-not-all-held .taken) in
+    let lacking = c .all-held .ensures .lacking (c .if-not-all-held .taken) in
     unheld bytes query (now (c .args .counts)) k (c .args .mode) (c .args .limit) (c .args .ground .tracks) (c .args .b) (c .pre .0 .one) (omega arith) (c .pre .2) (g .P·Price .pricing) (g .P·Price .meaning) ask asked by candidate want as-long (λ i l. c .want-bytes .ensures .each (c .if-not-want-bytes .left) i (omega arith)) (lacking .0) (lacking .1) (lacking .2)
 
 pub best-under-requires : need.best-under-requires
