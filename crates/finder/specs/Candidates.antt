@@ -39,6 +39,11 @@ abbrev pub CandidateTo : Kind → Mode → List ℕ → ℕ → ℕ → Option �
 CandidateTo kind mode counts first b None = (c : ℤ) → Candidate kind mode counts first b c → ⊥
 CandidateTo kind mode counts first b (Some by) = Candidate kind mode counts first b by
 
+-- a choice, if there is one, is under a candidate that leads to a byte
+abbrev pub UnderCandidate : {P : Type 0} → Kind → Mode → List ℕ → ℕ → Option (Choice P) → Type 0
+UnderCandidate kind mode counts first None = Unit {0}
+UnderCandidate kind mode counts first (Some o) = (b : ℕ) × (b < 256) × Candidate kind mode counts first b (o .shift)
+
 -- a choice costs no more than another, and lies at no later place if the other costs no more either
 pub record First {P : Type 0} (m : Pricing) (meaning : P → m .Meaning) (x y : Choice P) : Type 0 where
   pub cheap : T (m .not-above (meaning (x .price)) (meaning (y .price)))

@@ -9,13 +9,14 @@ use notation::Symbol;
 use price::Entry;
 use price::Price;
 ghost use mathlib.Core.Bool.{true, false};
-ghost use mathlib.Core.List.{map};
+ghost use mathlib.Core.List.{List, map};
 ghost use mathlib.Core.Path.{_≡_};
 ghost use Prim.Native.Nat.{ℕ, _+_, _≤_, _<_};
 ghost use lib.ListN.{length, getD};
+ghost use Rattle.notation.specs.Kind.{Kind};
 ghost use Rattle.splitting.specs.Score.{Question, note};
 ghost use Rattle.splitting.specs.Laws.{Covered};
-ghost use Rattle.finder.specs.Candidates.{Asked, CandidateTo, Decided, Among, OfAll};
+ghost use Rattle.finder.specs.Candidates.{Asked, CandidateTo, UnderCandidate, Decided, Among, OfAll};
 ghost use Rattle.finder.specs.Tables.{Surveyed, Marks};
 ghost use Rattle.finder.specs.Workspace.{Counted, workspace};
 
@@ -75,7 +76,8 @@ fn comes_first<P: Price>(one: Choice<P>, other: Choice<P>) -> bool
 
 // The better of two choices: the cheaper one, of equals the one at the earlier place.
 fn preferred<P: Price>(one: Option<Choice<P>>, other: Option<Choice<P>>) -> Option<Choice<P>>
-    ensures { λ r. ⌜ ((ask : Question) (tracks low mid high : ℕ) → Covered ask → 1 ≤ tracks → Among pricing meaning ask tracks low mid one → Among pricing meaning ask tracks mid high other → Among pricing meaning ask tracks low high r) ⌝ }
+    ensures under { λ r. ⌜ ((k : Kind) (mode : Mode) (counts : List ℕ) (first : ℕ) → UnderCandidate k mode counts first one → UnderCandidate k mode counts first other → UnderCandidate k mode counts first r) ⌝ }
+    ensures best { λ r. ⌜ ((ask : Question) (tracks low mid high : ℕ) → Covered ask → 1 ≤ tracks → Among pricing meaning ask tracks low mid one → Among pricing meaning ask tracks mid high other → Among pricing meaning ask tracks low high r) ⌝ }
 {
     let Some(a) = one else {
         return other;
@@ -108,7 +110,8 @@ fn best_to<S: Symbol, P: Price>(
     requires { ⌜ workspace kind mode (map byte (now (ground .cells))) (map byte (now query)) ≤ length (now prices) ⌝ }
     requires { ⌜ workspace kind mode (map byte (now (ground .cells))) (map byte (now query)) ≤ length (now steps) ⌝ }
     requires { ⌜ workspace kind mode (map byte (now (ground .cells))) (map byte (now query)) ≤ length (now entries) ⌝ }
-    ensures { λ r. ⌜ ((ask : Question) → Asked ask (map byte (now (ground .entry .cells))) (ground .entry .tracks) kind mode limit (map byte (now (query .entry))) → Among pricing meaning ask (ground .entry .tracks) b (b + 1) r) ⌝ }
+    ensures under { λ r. ⌜ UnderCandidate kind mode (now (counts .entry)) (note (map byte (now (query .entry))) 1) r ⌝ }
+    ensures best { λ r. ⌜ ((ask : Question) → Asked ask (map byte (now (ground .entry .cells))) (ground .entry .tracks) kind mode limit (map byte (now (query .entry))) → Among pricing meaning ask (ground .entry .tracks) b (b + 1) r) ⌝ }
 {
     let Some(by) = candidate_to(counts, mode, query, b) else {
         return None;
@@ -150,7 +153,8 @@ pub(crate) fn best_of_all<S: Symbol, P: Price>(
     requires { ⌜ workspace kind mode (map byte (now (ground .cells))) (map byte (now query)) ≤ length (now prices) ⌝ }
     requires { ⌜ workspace kind mode (map byte (now (ground .cells))) (map byte (now query)) ≤ length (now steps) ⌝ }
     requires { ⌜ workspace kind mode (map byte (now (ground .cells))) (map byte (now query)) ≤ length (now entries) ⌝ }
-    ensures { λ r. ⌜ ((ask : Question) → Asked ask (map byte (now (ground .entry .cells))) (ground .entry .tracks) kind mode limit (map byte (now (query .entry))) → OfAll pricing meaning ask (ground .entry .tracks) r) ⌝ }
+    ensures under { λ r. ⌜ UnderCandidate kind mode (now (counts .entry)) (note (map byte (now (query .entry))) 1) r ⌝ }
+    ensures best { λ r. ⌜ ((ask : Question) → Asked ask (map byte (now (ground .entry .cells))) (ground .entry .tracks) kind mode limit (map byte (now (query .entry))) → OfAll pricing meaning ask (ground .entry .tracks) r) ⌝ }
 {
     let mut best = None;
     for b in 0..256usize {
