@@ -16,8 +16,9 @@ use Rattle.splitting.specs.Rest.{Rest, Begins}
 use Rattle.splitting.specs.Answer.{NotAfter}
 use Rattle.splitting.specs.declared.Place.{Place}
 use Rattle.finder.specs.Rows.{column-of, track-of}
-use Rattle.finder.specs.Resting.{Posed}
+use Rattle.finder.specs.Resting.{Posed, Wanted, RowsRight, row-of}
 use Rattle.finder.specs.Topmost.{place-at}
+use Rattle.finder.specs.Workspace.{workspace}
 use Rattle.finder.specs.declared.candidates.Choice.{Choice}
 
 -- a question about a score, with its kind of symbols, its mode, its limit and its query
@@ -43,6 +44,14 @@ CandidateTo kind mode counts first b (Some by) = Candidate kind mode counts firs
 abbrev pub UnderCandidate : {P : Type 0} → Kind → Mode → List ℕ → ℕ → Option (Choice P) → Type 0
 UnderCandidate kind mode counts first None = Unit {0}
 UnderCandidate kind mode counts first (Some o) = (b : ℕ) × (b < 256) × Candidate kind mode counts first b (o .shift)
+
+-- a sheet of this size has room for the rows of a query under a transposition
+pub record Roomy (kind : Kind) (counts bytes query : List ℕ) (shift : ℤ) (size : ℕ) : Type 0 where
+  pub mode : Mode
+  pub byte : ℕ
+  pub small : byte < 256
+  pub candidate : Candidate kind mode counts (note query 1) byte shift
+  pub fits : workspace kind mode bytes query ≤ size
 
 -- a choice costs no more than another, and lies at no later place if the other costs no more either
 pub record First {P : Type 0} (m : Pricing) (meaning : P → m .Meaning) (x y : Choice P) : Type 0 where
@@ -90,3 +99,14 @@ module _ {P : Type 0} (m : Pricing) (meaning : P → m .Meaning) (ask : Question
   abbrev pub OfAll : Option (Choice P) → Type 0
   OfAll None = (x : Place) (a : m .Meaning) → Begins m ask x a → ⊥
   OfAll (Some o) = BestOfAll o
+
+  -- The rows stand for the transposition of a choice, and the price at its place in the first row is that of a rest,
+  -- which costs no more.
+  pub record Refilled (bytes : List ℕ) (limit : ℕ) (o : Choice P) (want : List ℕ) (prices : List (Option P)) (steps : List ℕ) (told : Option P) : Type 0 where
+    pub price : P
+    pub told-is : told ≡ Some price
+    pub row-is : row-of bytes want prices 0 (o .place) ≡ Some price
+    pub wanted : Wanted ask (o .shift) want
+    pub rows : RowsRight m meaning bytes tracks limit want prices steps 0
+    pub rest-is : Rest m ask (o .shift) 1 (column-of tracks (o .place)) (track-of tracks (o .place)) (meaning price)
+    pub no-dearer : T (m .not-above (meaning price) (meaning (o .price)))

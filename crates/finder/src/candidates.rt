@@ -1,5 +1,7 @@
 //! The cheapest rest of a query over all candidate transpositions.
 
+use super::row::price_at;
+use super::rows::fill_rows;
 use super::size::admits;
 use super::table::Ground;
 use super::topping::best_under;
@@ -16,7 +18,7 @@ ghost use lib.ListN.{length, getD};
 ghost use Rattle.notation.specs.Kind.{Kind};
 ghost use Rattle.splitting.specs.Score.{Question, note};
 ghost use Rattle.splitting.specs.Laws.{Covered};
-ghost use Rattle.finder.specs.Candidates.{Asked, CandidateTo, UnderCandidate, Decided, Among, OfAll};
+ghost use Rattle.finder.specs.Candidates.{Asked, CandidateTo, UnderCandidate, Roomy, Decided, Stands, Among, OfAll, Refilled};
 ghost use Rattle.finder.specs.Tables.{Surveyed, Marks};
 ghost use Rattle.finder.specs.Workspace.{Counted, workspace};
 
@@ -174,4 +176,35 @@ pub(crate) fn best_of_all<S: Symbol, P: Price>(
         best = preferred(best, here);
     }
     best
+}
+
+// Fills the rows of all notes again, under the transposition of a choice, and tells the price at its
+// place in the row of the first.
+pub(crate) fn refill<S: Symbol, P: Price>(
+    ground: Ground<S>,
+    last: &[u32; 256],
+    counts: &[u32; 256],
+    query: &[S],
+    choice: Choice<P>,
+    limit: u32,
+    want: &mut [u8],
+    prices: &mut [Option<P>],
+    steps: &mut [u32],
+    entries: &mut [Entry<P>],
+) -> Option<P>
+    requires { ⌜ Surveyed byte ground ⌝ }
+    requires { ⌜ Marks (map byte (now (ground .cells))) (now last) (length (map byte (now (ground .cells)))) ⌝ }
+    requires { ⌜ Counted (now counts) (map byte (now (ground .cells))) ⌝ }
+    requires { ⌜ 1 ≤ length (now query) ⌝ }
+    requires { ⌜ length (now want) ≡ length (now query) ⌝ }
+    requires { ⌜ Roomy kind (now counts) (map byte (now (ground .cells))) (map byte (now query)) (choice .shift) (length (now prices)) ⌝ }
+    requires { ⌜ Roomy kind (now counts) (map byte (now (ground .cells))) (map byte (now query)) (choice .shift) (length (now steps)) ⌝ }
+    requires { ⌜ Roomy kind (now counts) (map byte (now (ground .cells))) (map byte (now query)) (choice .shift) (length (now entries)) ⌝ }
+    ensures { λ r. ⌜ ((ask : Question) (mode : Mode) → Asked ask (map byte (now (ground .entry .cells))) (ground .entry .tracks) kind mode limit (map byte (now (query .entry))) → Stands pricing meaning ask (ground .entry .tracks) choice → Refilled pricing meaning ask (ground .entry .tracks) (map byte (now (ground .entry .cells))) limit choice (now (want .exit)) (now (prices .exit)) (now (steps .exit)) r) ⌝ }
+{
+    if !want_bytes(query, choice.shift, want) {
+        return None;
+    }
+    let row = fill_rows(ground, last, counts, want, limit, prices, steps, entries);
+    price_at(ground, row, prices, choice.place)
 }
