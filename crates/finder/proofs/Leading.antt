@@ -20,15 +20,16 @@ use Rattle.notation.specs.declared.Mode.the-variants.{Untransposed, AnyTranspos
 use Rattle.price.specs.Pricing.{Pricing, Lawful as PriceLaws}
 use Rattle.splitting.specs.Score.{Question, Admits, Matches, symbol, note}
 use Rattle.splitting.specs.Rest.{Rest, ends, goes-on, handed-over, Begins, begins, Least}
+use Rattle.splitting.specs.Laws.{Covered}
 use Rattle.splitting.specs.declared.Place.{Place}
-use Rattle.splitting.proofs.Depths.{rest-matches}
+use Rattle.splitting.proofs.Depths.{rest-matches, depth-63}
 use Rattle.splitting.proofs.Kept.{one-symbol}
 use Rattle.finder.specs.Columns.{columns-of}
 use Rattle.finder.specs.Workspace.{admits, matching, triples, candidate-size, workspace, Counted}
 use Rattle.finder.specs.Resting.{Posed, Wanted, RowsRight, offset-of, row-of}
 use Rattle.finder.specs.Rows.{column-of, track-of, value}
 use Rattle.finder.specs.Topmost.{BestRest, BestUnder}
-use Rattle.finder.specs.Candidates.{Asked, Candidate, CandidateTo, Leads, Stands, BestAmong, Among, BestOfAll, OfAll, Refilled}
+use Rattle.finder.specs.Candidates.{Asked, Candidate, CandidateTo, Leads, Stands, BestAmong, Among, BestOfAll, OfAll, Refilled, Settled}
 use Rattle.finder.specs.declared.topping.Best.{Best}
 use Rattle.finder.specs.declared.candidates.Choice.{Choice}
 use Rattle.finder.proofs.Columns.{symbol-at, symbol-past-columns, symbol-past-tracks}
@@ -217,3 +218,29 @@ module _ (bytes query : List ℕ) (kind : Kind) (mode : Mode) (limit tracks : �
         go : (x : Option P) → x ≡ row-of bytes want prices 0 (o .place) → Least m here (mapped meaning x) → Refilled m meaning ask tracks bytes limit o want prices steps x
         go None e h = absurd (h (meaning (o .price)) (stands .rest-is))
         go (Some a) e h = record { price = a; told-is = refl; row-is = sym e; wanted = all-wanted; rows = rows; rest-is = h .0; no-dearer = h .1 (meaning (o .price)) (stands .rest-is) }
+
+-- the best rest at the price that the row has for it
+module _ (bytes : List ℕ) (limit tracks : ℕ) {P : Type 0} (m : Pricing) (laws-of : PriceLaws m) (meaning : P → m .Meaning) (ask : Question) (covered : Covered ask) (want : List ℕ) (prices : List (Option P)) (steps : List ℕ) (o : Choice P) (best : BestOfAll m meaning ask tracks o) where
+  begun-deep : (x : Place) (a : m .Meaning) → Begins m ask x a → m .depth a ≤ 63
+  begun-deep x a (begins c _ r) = depth-63 m laws-of ask covered c r
+
+  pub settled : (told : Option P) (a : P) → told ≡ Some a → Refilled m meaning ask tracks bytes limit o want prices steps told → Settled m meaning ask tracks bytes limit want prices steps (record { price = a; place = o .place; shift = o .shift })
+  settled told a e h =
+      let same : h .price ≡ a = let f = h .told-is in cc in
+      let x = meaning a in
+      let y = meaning (o .price) in
+      let r = subst (λ z. Rest m ask (o .shift) 1 (column-of tracks (o .place)) (track-of tracks (o .place)) (meaning z)) same (h .rest-is) in
+      let low = subst (λ z. T (m .not-above (meaning z) y)) same (h .no-dearer) in
+      let d = depth-63 m laws-of ask covered (o .shift) r in
+      let d′ = depth-63 m laws-of ask covered (o .shift) (best .stands .rest-is) in
+      record {
+        best =
+            record {
+              stands = record { admitted = best .stands .admitted; rest-is = r };
+              least = λ z u b. laws-of .trans x y u d d′ (begun-deep z u b) low (best .least z u b);
+              earliest = λ z u b less. best .earliest z u b (laws-of .trans u x y (begun-deep z u b) d d′ less low);
+            };
+        row-is = subst (λ z. row-of bytes want prices 0 (o .place) ≡ Some z) same (h .row-is);
+        wanted = h .wanted;
+        rows = h .rows;
+      }

@@ -110,3 +110,15 @@ module _ {P : Type 0} (m : Pricing) (meaning : P → m .Meaning) (ask : Question
     pub rows : RowsRight m meaning bytes tracks limit want prices steps 0
     pub rest-is : Rest m ask (o .shift) 1 (column-of tracks (o .place)) (track-of tracks (o .place)) (meaning price)
     pub no-dearer : T (m .not-above (meaning price) (meaning (o .price)))
+
+  -- the best rest of the query, with the rows under its transposition, in the first of which its price stands
+  pub record Settled (bytes : List ℕ) (limit : ℕ) (want : List ℕ) (prices : List (Option P)) (steps : List ℕ) (o : Choice P) : Type 0 where
+    pub best : BestOfAll o
+    pub row-is : row-of bytes want prices 0 (o .place) ≡ Some (o .price)
+    pub wanted : Wanted ask (o .shift) want
+    pub rows : RowsRight m meaning bytes tracks limit want prices steps 0
+
+  -- or absence where the query can be found nowhere
+  abbrev pub Settles : List ℕ → ℕ → List ℕ → List (Option P) → List ℕ → Option (Choice P) → Type 0
+  Settles bytes limit want prices steps None = OfAll None
+  Settles bytes limit want prices steps (Some o) = Settled bytes limit want prices steps o

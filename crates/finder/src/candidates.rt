@@ -18,7 +18,7 @@ ghost use lib.ListN.{length, getD};
 ghost use Rattle.notation.specs.Kind.{Kind};
 ghost use Rattle.splitting.specs.Score.{Question, note};
 ghost use Rattle.splitting.specs.Laws.{Covered};
-ghost use Rattle.finder.specs.Candidates.{Asked, CandidateTo, UnderCandidate, Roomy, Decided, Stands, Among, OfAll, Refilled};
+ghost use Rattle.finder.specs.Candidates.{Asked, CandidateTo, UnderCandidate, Roomy, Decided, Stands, Among, OfAll, Refilled, Settles};
 ghost use Rattle.finder.specs.Tables.{Surveyed, Marks};
 ghost use Rattle.finder.specs.Workspace.{Counted, workspace};
 
@@ -207,4 +207,63 @@ pub(crate) fn refill<S: Symbol, P: Price>(
     }
     let row = fill_rows(ground, last, counts, want, limit, prices, steps, entries);
     price_at(ground, row, prices, choice.place)
+}
+
+// The cheapest rest of the whole query over all candidates, of equals the one that begins earliest,
+// with the rows under its transposition.
+pub(crate) fn settle<S: Symbol, P: Price>(
+    ground: Ground<S>,
+    last: &[u32; 256],
+    counts: &[u32; 256],
+    mode: Mode,
+    query: &[S],
+    limit: u32,
+    want: &mut [u8],
+    prices: &mut [Option<P>],
+    steps: &mut [u32],
+    entries: &mut [Entry<P>],
+) -> Option<Choice<P>>
+    requires { ⌜ Surveyed byte ground ⌝ }
+    requires { ⌜ Marks (map byte (now (ground .cells))) (now last) (length (map byte (now (ground .cells)))) ⌝ }
+    requires { ⌜ Counted (now counts) (map byte (now (ground .cells))) ⌝ }
+    requires { ⌜ 1 ≤ length (now query) ⌝ }
+    requires { ⌜ length (now want) ≡ length (now query) ⌝ }
+    requires { ⌜ workspace kind mode (map byte (now (ground .cells))) (map byte (now query)) ≤ length (now prices) ⌝ }
+    requires { ⌜ workspace kind mode (map byte (now (ground .cells))) (map byte (now query)) ≤ length (now steps) ⌝ }
+    requires { ⌜ workspace kind mode (map byte (now (ground .cells))) (map byte (now query)) ≤ length (now entries) ⌝ }
+    ensures { λ r. ⌜ ((ask : Question) → Asked ask (map byte (now (ground .entry .cells))) (ground .entry .tracks) kind mode limit (map byte (now (query .entry))) → Settles pricing meaning ask (ground .entry .tracks) (map byte (now (ground .entry .cells))) limit (now (want .exit)) (now (prices .exit)) (now (steps .exit)) r) ⌝ }
+{
+    let Some(best) = best_of_all(
+        ground,
+        last,
+        counts,
+        mode,
+        query,
+        limit,
+        want,
+        prices,
+        steps,
+        entries,
+    ) else {
+        return None;
+    };
+    let Some(price) = refill(
+        ground,
+        last,
+        counts,
+        query,
+        best,
+        limit,
+        want,
+        prices,
+        steps,
+        entries,
+    ) else {
+        return None;
+    };
+    Some(Choice {
+        price,
+        place: best.place,
+        shift: best.shift,
+    })
 }
