@@ -18,9 +18,9 @@ ghost use lib.ListN.{length, getD};
 ghost use Rattle.notation.specs.Kind.{Kind};
 ghost use Rattle.splitting.specs.Score.{Question, note};
 ghost use Rattle.splitting.specs.Laws.{Covered};
-ghost use Rattle.finder.specs.Candidates.{Asked, CandidateTo, UnderCandidate, Roomy, Decided, Stands, Among, OfAll, Refilled, Settles};
+ghost use Rattle.finder.specs.Candidates.{Asked, CandidateTo, UnderCandidate, Ready, Roomy, Decided, Among, BestOfAll, OfAll, Settles};
 ghost use Rattle.finder.specs.Tables.{Surveyed, Marks};
-ghost use Rattle.finder.specs.Workspace.{Counted, workspace};
+ghost use Rattle.finder.specs.Workspace.{Counted};
 
 /// A price, the place that it stands at, and the transposition that it stands under.
 #[derive(Clone, Copy)]
@@ -104,14 +104,7 @@ fn best_to<S: Symbol, P: Price>(
     steps: &mut [u32],
     entries: &mut [Entry<P>],
 ) -> Option<Choice<P>>
-    requires { ⌜ Surveyed byte ground ⌝ }
-    requires { ⌜ Marks (map byte (now (ground .cells))) (now last) (length (map byte (now (ground .cells)))) ⌝ }
-    requires { ⌜ Counted (now counts) (map byte (now (ground .cells))) ⌝ }
-    requires { ⌜ 1 ≤ length (now query) ⌝ }
-    requires { ⌜ length (now want) ≡ length (now query) ⌝ }
-    requires { ⌜ workspace kind mode (map byte (now (ground .cells))) (map byte (now query)) ≤ length (now prices) ⌝ }
-    requires { ⌜ workspace kind mode (map byte (now (ground .cells))) (map byte (now query)) ≤ length (now steps) ⌝ }
-    requires { ⌜ workspace kind mode (map byte (now (ground .cells))) (map byte (now query)) ≤ length (now entries) ⌝ }
+    requires { ⌜ Ready byte kind mode ground (now last) (now counts) (now query) (length (now want)) (length (now prices)) (length (now steps)) (length (now entries)) ⌝ }
     ensures under { λ r. ⌜ UnderCandidate kind mode (now (counts .entry)) (note (map byte (now (query .entry))) 1) r ⌝ }
     ensures best { λ r. ⌜ ((ask : Question) → Asked ask (map byte (now (ground .entry .cells))) (ground .entry .tracks) kind mode limit (map byte (now (query .entry))) → Among pricing meaning ask (ground .entry .tracks) b (b + 1) r) ⌝ }
 {
@@ -147,14 +140,7 @@ pub(crate) fn best_of_all<S: Symbol, P: Price>(
     steps: &mut [u32],
     entries: &mut [Entry<P>],
 ) -> Option<Choice<P>>
-    requires { ⌜ Surveyed byte ground ⌝ }
-    requires { ⌜ Marks (map byte (now (ground .cells))) (now last) (length (map byte (now (ground .cells)))) ⌝ }
-    requires { ⌜ Counted (now counts) (map byte (now (ground .cells))) ⌝ }
-    requires { ⌜ 1 ≤ length (now query) ⌝ }
-    requires { ⌜ length (now want) ≡ length (now query) ⌝ }
-    requires { ⌜ workspace kind mode (map byte (now (ground .cells))) (map byte (now query)) ≤ length (now prices) ⌝ }
-    requires { ⌜ workspace kind mode (map byte (now (ground .cells))) (map byte (now query)) ≤ length (now steps) ⌝ }
-    requires { ⌜ workspace kind mode (map byte (now (ground .cells))) (map byte (now query)) ≤ length (now entries) ⌝ }
+    requires { ⌜ Ready byte kind mode ground (now last) (now counts) (now query) (length (now want)) (length (now prices)) (length (now steps)) (length (now entries)) ⌝ }
     ensures under { λ r. ⌜ UnderCandidate kind mode (now (counts .entry)) (note (map byte (now (query .entry))) 1) r ⌝ }
     ensures best { λ r. ⌜ ((ask : Question) → Asked ask (map byte (now (ground .entry .cells))) (ground .entry .tracks) kind mode limit (map byte (now (query .entry))) → OfAll pricing meaning ask (ground .entry .tracks) r) ⌝ }
 {
@@ -178,8 +164,8 @@ pub(crate) fn best_of_all<S: Symbol, P: Price>(
     best
 }
 
-// Fills the rows of all notes again, under the transposition of a choice, and tells the price at its
-// place in the row of the first.
+// Fills the rows of all notes again, under the transposition of a choice, and tells it at the
+// price that the row of the first has at its place.
 pub(crate) fn refill<S: Symbol, P: Price>(
     ground: Ground<S>,
     last: &[u32; 256],
@@ -191,7 +177,7 @@ pub(crate) fn refill<S: Symbol, P: Price>(
     prices: &mut [Option<P>],
     steps: &mut [u32],
     entries: &mut [Entry<P>],
-) -> Option<P>
+) -> Option<Choice<P>>
     requires { ⌜ Surveyed byte ground ⌝ }
     requires { ⌜ Marks (map byte (now (ground .cells))) (now last) (length (map byte (now (ground .cells)))) ⌝ }
     requires { ⌜ Counted (now counts) (map byte (now (ground .cells))) ⌝ }
@@ -200,13 +186,20 @@ pub(crate) fn refill<S: Symbol, P: Price>(
     requires { ⌜ Roomy kind (now counts) (map byte (now (ground .cells))) (map byte (now query)) (choice .shift) (length (now prices)) ⌝ }
     requires { ⌜ Roomy kind (now counts) (map byte (now (ground .cells))) (map byte (now query)) (choice .shift) (length (now steps)) ⌝ }
     requires { ⌜ Roomy kind (now counts) (map byte (now (ground .cells))) (map byte (now query)) (choice .shift) (length (now entries)) ⌝ }
-    ensures { λ r. ⌜ ((ask : Question) (mode : Mode) → Asked ask (map byte (now (ground .entry .cells))) (ground .entry .tracks) kind mode limit (map byte (now (query .entry))) → Stands pricing meaning ask (ground .entry .tracks) choice → Refilled pricing meaning ask (ground .entry .tracks) (map byte (now (ground .entry .cells))) limit choice (now (want .exit)) (now (prices .exit)) (now (steps .exit)) r) ⌝ }
+    ensures { λ r. ⌜ ((ask : Question) (mode : Mode) → Asked ask (map byte (now (ground .entry .cells))) (ground .entry .tracks) kind mode limit (map byte (now (query .entry))) → BestOfAll pricing meaning ask (ground .entry .tracks) choice → Settles pricing meaning ask (ground .entry .tracks) (map byte (now (ground .entry .cells))) limit (now (want .exit)) (now (prices .exit)) (now (steps .exit)) r) ⌝ }
 {
     if !want_bytes(query, choice.shift, want) {
         return None;
     }
     let row = fill_rows(ground, last, counts, want, limit, prices, steps, entries);
-    price_at(ground, row, prices, choice.place)
+    let Some(price) = price_at(ground, row, prices, choice.place) else {
+        return None;
+    };
+    Some(Choice {
+        price,
+        place: choice.place,
+        shift: choice.shift,
+    })
 }
 
 // The cheapest rest of the whole query over all candidates, of equals the one that begins earliest,
@@ -223,14 +216,7 @@ pub(crate) fn settle<S: Symbol, P: Price>(
     steps: &mut [u32],
     entries: &mut [Entry<P>],
 ) -> Option<Choice<P>>
-    requires { ⌜ Surveyed byte ground ⌝ }
-    requires { ⌜ Marks (map byte (now (ground .cells))) (now last) (length (map byte (now (ground .cells)))) ⌝ }
-    requires { ⌜ Counted (now counts) (map byte (now (ground .cells))) ⌝ }
-    requires { ⌜ 1 ≤ length (now query) ⌝ }
-    requires { ⌜ length (now want) ≡ length (now query) ⌝ }
-    requires { ⌜ workspace kind mode (map byte (now (ground .cells))) (map byte (now query)) ≤ length (now prices) ⌝ }
-    requires { ⌜ workspace kind mode (map byte (now (ground .cells))) (map byte (now query)) ≤ length (now steps) ⌝ }
-    requires { ⌜ workspace kind mode (map byte (now (ground .cells))) (map byte (now query)) ≤ length (now entries) ⌝ }
+    requires { ⌜ Ready byte kind mode ground (now last) (now counts) (now query) (length (now want)) (length (now prices)) (length (now steps)) (length (now entries)) ⌝ }
     ensures { λ r. ⌜ ((ask : Question) → Asked ask (map byte (now (ground .entry .cells))) (ground .entry .tracks) kind mode limit (map byte (now (query .entry))) → Settles pricing meaning ask (ground .entry .tracks) (map byte (now (ground .entry .cells))) limit (now (want .exit)) (now (prices .exit)) (now (steps .exit)) r) ⌝ }
 {
     let Some(best) = best_of_all(
@@ -247,7 +233,7 @@ pub(crate) fn settle<S: Symbol, P: Price>(
     ) else {
         return None;
     };
-    let Some(price) = refill(
+    refill(
         ground,
         last,
         counts,
@@ -258,12 +244,5 @@ pub(crate) fn settle<S: Symbol, P: Price>(
         prices,
         steps,
         entries,
-    ) else {
-        return None;
-    };
-    Some(Choice {
-        price,
-        place: best.place,
-        shift: best.shift,
-    })
+    )
 }

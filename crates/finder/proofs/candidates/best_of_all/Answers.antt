@@ -17,7 +17,7 @@ loop-b-again g c =
     let tracks = c .args .ground .tracks in
     let first = note (map (g .S·Symbol .byte) (now (c .args .query))) 1 in (
       c .preferred-best .ensures .under (g .S·Symbol .kind) (c .args .mode) (now (c .args .counts)) first (c .loop-b .inv .0) (c .best-to-here .ensures .under),
-      λ ask asked. c .preferred-best .ensures .best ask tracks 0 b (b + 1) (asked .posed .covered) (c .pre .0 .one) (c .loop-b .inv .1 ask asked) (c .best-to-here .ensures .best ask asked),
+      λ ask asked. c .preferred-best .ensures .best ask tracks 0 b (b + 1) (asked .posed .covered) (c .pre .surveyed .one) (c .loop-b .inv .1 ask asked) (c .best-to-here .ensures .best ask asked),
     )
 
 pub returns : need.returns
@@ -28,5 +28,5 @@ returns g c =
     let done : c .loop-b .b ≡ 256 = omega arith in
     record {
       under = c .loop-b .inv .0;
-      best = λ ask asked. of-all ask bytes (c .args .ground .tracks) (c .pre .0 .one) (asked .posed) m meaning (c .loop-b .best) (subst (λ z. Among m meaning ask (c .args .ground .tracks) 0 z (c .loop-b .best)) done (c .loop-b .inv .1 ask asked));
+      best = λ ask asked. of-all ask bytes (c .args .ground .tracks) (c .pre .surveyed .one) (asked .posed) m meaning (c .loop-b .best) (subst (λ z. Among m meaning ask (c .args .ground .tracks) 0 z (c .loop-b .best)) done (c .loop-b .inv .1 ask asked));
     }
