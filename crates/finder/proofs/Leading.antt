@@ -1,7 +1,7 @@
 -- The rests under one candidate, and those under all of them.
 use mathlib.Core.Path.{_≡_, refl, sym, _∙_, ap, subst}
-use mathlib.Core.Logic.{_⊎_, inl, inr}
-use mathlib.Core.Bool.{Bool, true, false, cond}
+use mathlib.Core.Logic.{inl, inr}
+use mathlib.Core.Bool.{true, cond}
 use mathlib.Core.List.{List, [], _∷_}
 use Prim.Native.Nat.{ℕ, zero, suc, _+_, _*_, _≤_, _<_}
 use native.Mathlib.Omega.{arith}
@@ -13,7 +13,7 @@ use Rattle.std.specs.declared.option.Option.{Option}
 use Rattle.std.specs.declared.option.Option.the-variants.{Some, None}
 use Rattle.std.specs.shelf.Lists.{sumBy, countBy}
 use Rattle.std.proofs.shelf.Sums.{sumBy-cons, getD-le-sumBy}
-use Rattle.std.proofs.shelf.Tests.{cases-lt, cases-eq, eq-eqb, cond-true, true≢false}
+use Rattle.std.proofs.shelf.Tests.{cases-lt, cases-eq, eq-eqb, cond-true}
 use Rattle.notation.specs.Kind.{Kind, rest, Lawful}
 use Rattle.notation.specs.declared.Mode.{Mode}
 use Rattle.notation.specs.declared.Mode.the-variants.{Untransposed, AnyTransposition}

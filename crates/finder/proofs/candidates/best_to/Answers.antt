@@ -1,7 +1,6 @@
-use mathlib.Core.Path.{_≡_, refl, sym, _∙_, ap, subst}
-use mathlib.Core.Bool.{true, false}
+use mathlib.Core.Path.{_≡_, sym, subst}
 use mathlib.Core.List.{map}
-use Prim.Native.Nat.{ℕ, _<_, _≤_}
+use Prim.Native.Nat.{_≤_}
 use native.Mathlib.Omega.{arith}
 use mir.Syntax.{w32}
 use mir.Val.{SFits, toZ, ofZ}
@@ -14,7 +13,6 @@ use Rattle.std.proofs.shelf.Lists.{length-map}
 use Rattle.splitting.specs.Score.{note}
 use Rattle.finder.specs.Workspace.{workspace}
 use Rattle.finder.specs.Candidates.{Candidate}
-use Rattle.std.specs.declared.option.Option.the-variants.{Some, None}
 use Rattle.std.proofs.shelf.Signed.{toZ-ofZ}
 use Rattle.finder.proofs.Leading.{no-candidate, unmatched, unheld, wanted, none-under, some-under, room}
 use Rattle.finder.proofs.candidates.best_to.Needs as need

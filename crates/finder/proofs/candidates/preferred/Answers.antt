@@ -1,6 +1,4 @@
-use mathlib.Core.Path.{_≡_, refl, sym, _∙_, ap, subst}
-use mathlib.Core.Bool.{true, false}
-use Rattle.std.specs.declared.option.Option.the-variants.{Some, None}
+use mathlib.Core.Path.{subst}
 use Rattle.finder.specs.Candidates.{Among, UnderCandidate}
 use Rattle.finder.proofs.Preferring.{parted, swapped, deep, alone, wins, behind}
 use Rattle.finder.proofs.candidates.preferred.Needs as need
