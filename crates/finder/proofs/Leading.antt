@@ -29,7 +29,7 @@ use Rattle.finder.specs.Workspace.{admits, matching, triples, candidate-size, 
 use Rattle.finder.specs.Resting.{Posed, Wanted, RowsRight, offset-of, row-of}
 use Rattle.finder.specs.Rows.{column-of, track-of, value}
 use Rattle.finder.specs.Topmost.{BestRest, BestUnder}
-use Rattle.finder.specs.Candidates.{Asked, Candidate, CandidateTo, Leads, Stands, BestAmong, Among, BestOfAll, OfAll, Refilled, Settled}
+use Rattle.finder.specs.Candidates.{Asked, Candidate, CandidateTo, Leads, Stands, BestAmong, Among, BestOfAll, OfAll, Settled}
 use Rattle.finder.specs.declared.topping.Best.{Best}
 use Rattle.finder.specs.declared.candidates.Choice.{Choice}
 use Rattle.finder.proofs.Columns.{symbol-at, symbol-past-columns, symbol-past-tracks}
@@ -188,6 +188,17 @@ module _ (bytes query counts : List ℕ) (kind : Kind) (mode : Mode) (limit trac
           least = λ c x a led admits r. h .least x a (subst (λ z. Rest m ask z 1 (x .column) (x .track) a) (same-shift c led) r);
           earliest = λ c x a led admits r. h .earliest x a (subst (λ z. Rest m ask z 1 (x .column) (x .track) a) (same-shift c led) r);
         }
+
+-- The rows stand for the transposition of a choice, and the price at its place in the first row is that of a rest,
+-- which costs no more.
+pub record Refilled {P : Type 0} (m : Pricing) (meaning : P → m .Meaning) (ask : Question) (tracks : ℕ) (bytes : List ℕ) (limit : ℕ) (o : Choice P) (want : List ℕ) (prices : List (Option P)) (steps : List ℕ) (told : Option P) : Type 0 where
+  pub price : P
+  pub told-is : told ≡ Some price
+  pub row-is : row-of bytes want prices 0 (o .place) ≡ Some price
+  pub wanted : Wanted ask (o .shift) want
+  pub rows : RowsRight m meaning bytes tracks limit want prices steps 0
+  pub rest-is : Rest m ask (o .shift) 1 (column-of tracks (o .place)) (track-of tracks (o .place)) (meaning price)
+  pub no-dearer : T (m .not-above (meaning price) (meaning (o .price)))
 
 -- the rows under the transposition of a choice
 module _ (bytes query : List ℕ) (kind : Kind) (mode : Mode) (limit tracks : ℕ) {P : Type 0} (m : Pricing) (laws-of : PriceLaws m) (meaning : P → m .Meaning) (ask : Question) (asked : Asked ask bytes tracks kind mode limit query) (o : Choice P) (stands : Stands m meaning ask tracks o) where

@@ -115,17 +115,6 @@ module _ {P : Type 0} (m : Pricing) (meaning : P → m .Meaning) (ask : Question
   OfAll None = (x : Place) (a : m .Meaning) → Begins m ask x a → ⊥
   OfAll (Some o) = BestOfAll o
 
-  -- The rows stand for the transposition of a choice, and the price at its place in the first row is that of a rest,
-  -- which costs no more.
-  pub record Refilled (bytes : List ℕ) (limit : ℕ) (o : Choice P) (want : List ℕ) (prices : List (Option P)) (steps : List ℕ) (told : Option P) : Type 0 where
-    pub price : P
-    pub told-is : told ≡ Some price
-    pub row-is : row-of bytes want prices 0 (o .place) ≡ Some price
-    pub wanted : Wanted ask (o .shift) want
-    pub rows : RowsRight m meaning bytes tracks limit want prices steps 0
-    pub rest-is : Rest m ask (o .shift) 1 (column-of tracks (o .place)) (track-of tracks (o .place)) (meaning price)
-    pub no-dearer : T (m .not-above (meaning price) (meaning (o .price)))
-
   -- the best rest of the query, with the rows under its transposition, in the first of which its price stands
   pub record Settled (bytes : List ℕ) (limit : ℕ) (want : List ℕ) (prices : List (Option P)) (steps : List ℕ) (o : Choice P) : Type 0 where
     pub best : BestOfAll o

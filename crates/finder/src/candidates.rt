@@ -219,7 +219,7 @@ pub(crate) fn settle<S: Symbol, P: Price>(
     requires { ⌜ Ready byte kind mode ground (now last) (now counts) (now query) (length (now want)) (length (now prices)) (length (now steps)) (length (now entries)) ⌝ }
     ensures { λ r. ⌜ ((ask : Question) → Asked ask (map byte (now (ground .entry .cells))) (ground .entry .tracks) kind mode limit (map byte (now (query .entry))) → Settles pricing meaning ask (ground .entry .tracks) (map byte (now (ground .entry .cells))) limit (now (want .exit)) (now (prices .exit)) (now (steps .exit)) r) ⌝ }
 {
-    let Some(best) = best_of_all(
+    let found = best_of_all(
         ground,
         last,
         counts,
@@ -230,7 +230,8 @@ pub(crate) fn settle<S: Symbol, P: Price>(
         prices,
         steps,
         entries,
-    ) else {
+    );
+    let Some(best) = found else {
         return None;
     };
     refill(

@@ -11,10 +11,10 @@ refill-requires g c κs =
       c .pre .marks,
       c .pre .counted,
       c .pre .some,
-      omega (arith, c .pre .as-long, c .best-of-all .kept .want),
-      record { mode = c .args .mode; byte = u .0; small = u .1; candidate = u .2; fits = omega (arith, c .pre .room-prices, c .best-of-all .kept .prices) },
-      record { mode = c .args .mode; byte = u .0; small = u .1; candidate = u .2; fits = omega (arith, c .pre .room-steps, c .best-of-all .kept .steps) },
-      record { mode = c .args .mode; byte = u .0; small = u .1; candidate = u .2; fits = omega (arith, c .pre .room-entries, c .best-of-all .kept .entries) },
+      omega (arith, c .pre .as-long, c .best-of-all-found .kept .want),
+      record { mode = c .args .mode; byte = u .0; small = u .1; candidate = u .2; fits = omega (arith, c .pre .room-prices, c .best-of-all-found .kept .prices) },
+      record { mode = c .args .mode; byte = u .0; small = u .1; candidate = u .2; fits = omega (arith, c .pre .room-steps, c .best-of-all-found .kept .steps) },
+      record { mode = c .args .mode; byte = u .0; small = u .1; candidate = u .2; fits = omega (arith, c .pre .room-entries, c .best-of-all-found .kept .entries) },
     )
 
 pub returns : need.returns
