@@ -51,7 +51,7 @@ module _ (ask : Question) (bytes : List ℕ) (tracks : ℕ) (one : 1 ≤ tracks)
   outside q (inl l) = value-past bytes b offset sheet q l
   outside q (inr ne) = value-other bytes b offset sheet q ne
 
-  known-at : (j t : ℕ) → Least m (Rest m ask c 1 j t) (entry ask bytes tracks one posed m meaning (value bytes b offset sheet) j t)
+  pub known-at : (j t : ℕ) → Least m (Rest m ask c 1 j t) (entry ask bytes tracks one posed m meaning (value bytes b offset sheet) j t)
   known-at = known ask bytes tracks one posed m meaning (value bytes b offset sheet) c 1 b wants outside right
 
   -- each rest costs no less than the price in the row at the place where it begins

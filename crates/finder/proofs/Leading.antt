@@ -1,38 +1,42 @@
 -- The rests under one candidate, and those under all of them.
 use mathlib.Core.Path.{_≡_, refl, sym, _∙_, ap, subst}
-use mathlib.Core.Logic.{_⊎_, inl, inr}
-use mathlib.Core.Bool.{Bool, true, false, cond}
+use mathlib.Core.Logic.{inl, inr}
+use mathlib.Core.Bool.{true, cond}
 use mathlib.Core.List.{List, [], _∷_}
 use Prim.Native.Nat.{ℕ, zero, suc, _+_, _*_, _≤_, _<_}
 use native.Mathlib.Omega.{arith}
 use lib.Dec.{T, eqb}
 use lib.IntN.{ℤ, pos}
 use lib.ListN.{length, getD}
+use Rattle.std.specs.Options.{mapped}
 use Rattle.std.specs.declared.option.Option.{Option}
 use Rattle.std.specs.declared.option.Option.the-variants.{Some, None}
 use Rattle.std.specs.shelf.Lists.{sumBy, countBy}
 use Rattle.std.proofs.shelf.Sums.{sumBy-cons, getD-le-sumBy}
-use Rattle.std.proofs.shelf.Tests.{cases-lt, cases-eq, eq-eqb, cond-true, true≢false}
+use Rattle.std.proofs.shelf.Tests.{cases-lt, cases-eq, eq-eqb, cond-true}
 use Rattle.notation.specs.Kind.{Kind, rest, Lawful}
 use Rattle.notation.specs.declared.Mode.{Mode}
 use Rattle.notation.specs.declared.Mode.the-variants.{Untransposed, AnyTransposition}
-use Rattle.price.specs.Pricing.{Pricing}
+use Rattle.price.specs.Pricing.{Pricing, Lawful as PriceLaws}
 use Rattle.splitting.specs.Score.{Question, Admits, Matches, symbol, note}
-use Rattle.splitting.specs.Rest.{Rest, ends, goes-on, handed-over, Begins, begins}
+use Rattle.splitting.specs.Rest.{Rest, ends, goes-on, handed-over, Begins, begins, Least}
+use Rattle.splitting.specs.Laws.{Covered}
 use Rattle.splitting.specs.declared.Place.{Place}
-use Rattle.splitting.proofs.Depths.{rest-matches}
+use Rattle.splitting.proofs.Depths.{rest-matches, depth-63}
 use Rattle.splitting.proofs.Kept.{one-symbol}
 use Rattle.finder.specs.Columns.{columns-of}
 use Rattle.finder.specs.Workspace.{admits, matching, triples, candidate-size, workspace, Counted}
-use Rattle.finder.specs.Resting.{Posed, Wants, Wanted}
+use Rattle.finder.specs.Resting.{Posed, Wanted, RowsRight, offset-of, row-of}
+use Rattle.finder.specs.Rows.{column-of, track-of, value}
 use Rattle.finder.specs.Topmost.{BestRest, BestUnder}
-use Rattle.finder.specs.Candidates.{Asked, Candidate, CandidateTo, Leads, Stands, BestAmong, Among, BestOfAll, OfAll}
+use Rattle.finder.specs.Candidates.{Asked, Candidate, CandidateTo, Leads, Stands, BestAmong, Among, BestOfAll, OfAll, Settled}
 use Rattle.finder.specs.declared.topping.Best.{Best}
 use Rattle.finder.specs.declared.candidates.Choice.{Choice}
 use Rattle.finder.proofs.Columns.{symbol-at, symbol-past-columns, symbol-past-tracks}
+use Rattle.finder.proofs.Concluding.{known-at}
 use Rattle.finder.proofs.Counts.{matching-byte, counted-le}
 use Rattle.finder.proofs.Intervals.{decides-interval}
-use Rattle.finder.proofs.Spotting.{place-size}
+use Rattle.finder.proofs.Spotting.{place-size, entry-place}
 
 -- the test on a transposition, and what it says
 pub admitted : (mode : Mode) (c : ℤ) → admits mode c ≡ true → Admits mode c
@@ -184,3 +188,70 @@ module _ (bytes query counts : List ℕ) (kind : Kind) (mode : Mode) (limit trac
           least = λ c x a led admits r. h .least x a (subst (λ z. Rest m ask z 1 (x .column) (x .track) a) (same-shift c led) r);
           earliest = λ c x a led admits r. h .earliest x a (subst (λ z. Rest m ask z 1 (x .column) (x .track) a) (same-shift c led) r);
         }
+
+-- The rows stand for the transposition of a choice, and the price at its place in the first row is that of a rest,
+-- which costs no more.
+pub record Refilled {P : Type 0} (m : Pricing) (meaning : P → m .Meaning) (ask : Question) (tracks : ℕ) (bytes : List ℕ) (limit : ℕ) (o : Choice P) (want : List ℕ) (prices : List (Option P)) (steps : List ℕ) (told : Option P) : Type 0 where
+  pub price : P
+  pub told-is : told ≡ Some price
+  pub row-is : row-of bytes want prices 0 (o .place) ≡ Some price
+  pub wanted : Wanted ask (o .shift) want
+  pub rows : RowsRight m meaning bytes tracks limit want prices steps 0
+  pub rest-is : Rest m ask (o .shift) 1 (column-of tracks (o .place)) (track-of tracks (o .place)) (meaning price)
+  pub no-dearer : T (m .not-above (meaning price) (meaning (o .price)))
+
+-- the rows under the transposition of a choice
+module _ (bytes query : List ℕ) (kind : Kind) (mode : Mode) (limit tracks : ℕ) {P : Type 0} (m : Pricing) (laws-of : PriceLaws m) (meaning : P → m .Meaning) (ask : Question) (asked : Asked ask bytes tracks kind mode limit query) (o : Choice P) (stands : Stands m meaning ask tracks o) where
+  heard : (i x : ℕ) → ask .kind .interval (note (ask .query) i) x ≡ kind .interval (note query i) x
+  heard i x = λ z. asked .kind-is z .interval (note (asked .query-is z) i) x
+
+  -- every note has a transposed one
+  pub all-matched : (k : ℕ) → k < length query → ((d : ℕ) → kind .interval (getD query k rest) d ≡ Some (o .shift) → ⊥) → ⊥
+  all-matched k l never =
+      let f = later-match (stands .rest-is) (suc k) (omega arith) (omega (arith, ap length (asked .query-is))) in
+      never (symbol (ask .score) (f .0) (f .1)) (sym (heard (suc k) (symbol (ask .score) (f .0) (f .1))) ∙ f .2)
+
+  module _ (want : List ℕ) (as-long : length want ≡ length query) (each : (k : ℕ) → k < length query → kind .interval (getD query k rest) (getD want k 0) ≡ Some (o .shift)) where
+    all-wanted : Wanted ask (o .shift) want
+    all-wanted = record { as-long = as-long ∙ sym (ap length (asked .query-is)); each = λ k l. heard (suc k) (getD want k 0) ∙ each k (omega arith) }
+
+    pub refilled : 1 ≤ tracks → 1 ≤ length want → (prices : List (Option P)) (steps : List ℕ) → RowsRight m meaning bytes tracks limit want prices steps 0 → (told : Option P) → told ≡ row-of bytes want prices 0 (o .place) → Refilled m meaning ask tracks bytes limit o want prices steps told
+    refilled one some prices steps rows told is = go told is (subst (Least m here) (ap (mapped meaning) (sym is)) least)
+      where
+        here : m .Meaning → Type 0
+        here = Rest m ask (o .shift) 1 (column-of tracks (o .place)) (track-of tracks (o .place))
+
+        least : Least m here (mapped meaning (row-of bytes want prices 0 (o .place)))
+        least =
+            subst (Least m here) (entry-place ask bytes tracks one (asked .posed) m meaning (value bytes (getD want 0 0) (offset-of bytes want 0) prices) (o .place))
+            (known-at ask bytes tracks one (asked .posed) m laws-of meaning (o .shift) (getD want 0 0) (offset-of bytes want 0) prices (all-wanted .each 0 some) (rows ask (o .shift) (asked .posed) (asked .limit-is) all-wanted 0 (omega arith) some .least) (column-of tracks (o .place)) (track-of tracks (o .place)))
+
+        go : (x : Option P) → x ≡ row-of bytes want prices 0 (o .place) → Least m here (mapped meaning x) → Refilled m meaning ask tracks bytes limit o want prices steps x
+        go None e h = absurd (h (meaning (o .price)) (stands .rest-is))
+        go (Some a) e h = record { price = a; told-is = refl; row-is = sym e; wanted = all-wanted; rows = rows; rest-is = h .0; no-dearer = h .1 (meaning (o .price)) (stands .rest-is) }
+
+-- the best rest at the price that the row has for it
+module _ (bytes : List ℕ) (limit tracks : ℕ) {P : Type 0} (m : Pricing) (laws-of : PriceLaws m) (meaning : P → m .Meaning) (ask : Question) (covered : Covered ask) (want : List ℕ) (prices : List (Option P)) (steps : List ℕ) (o : Choice P) (best : BestOfAll m meaning ask tracks o) where
+  begun-deep : (x : Place) (a : m .Meaning) → Begins m ask x a → m .depth a ≤ 63
+  begun-deep x a (begins c _ r) = depth-63 m laws-of ask covered c r
+
+  pub settled : (told : Option P) (a : P) → told ≡ Some a → Refilled m meaning ask tracks bytes limit o want prices steps told → Settled m meaning ask tracks bytes limit want prices steps (record { price = a; place = o .place; shift = o .shift })
+  settled told a e h =
+      let same : h .price ≡ a = let f = h .told-is in cc in
+      let x = meaning a in
+      let y = meaning (o .price) in
+      let r = subst (λ z. Rest m ask (o .shift) 1 (column-of tracks (o .place)) (track-of tracks (o .place)) (meaning z)) same (h .rest-is) in
+      let low = subst (λ z. T (m .not-above (meaning z) y)) same (h .no-dearer) in
+      let d = depth-63 m laws-of ask covered (o .shift) r in
+      let d′ = depth-63 m laws-of ask covered (o .shift) (best .stands .rest-is) in
+      record {
+        best =
+            record {
+              stands = record { admitted = best .stands .admitted; rest-is = r };
+              least = λ z u b. laws-of .trans x y u d d′ (begun-deep z u b) low (best .least z u b);
+              earliest = λ z u b less. best .earliest z u b (laws-of .trans u x y (begun-deep z u b) d d′ less low);
+            };
+        row-is = subst (λ z. row-of bytes want prices 0 (o .place) ≡ Some z) same (h .row-is);
+        wanted = h .wanted;
+        rows = h .rows;
+      }

@@ -1,11 +1,12 @@
 -- The best rest of a query over candidate transpositions, which lead from the first note to a byte.
 use mathlib.Core.Path.{_≡_}
 use mathlib.Core.Bool.{Bool, true, false}
-use mathlib.Core.List.{List}
+use mathlib.Core.List.{List, map}
 use Prim.Native.Nat.{ℕ, _≤_, _<_}
+use denote.Ref.{now}
 use lib.Dec.{T}
 use lib.IntN.{ℤ}
-use lib.ListN.{getD}
+use lib.ListN.{length, getD}
 use Rattle.std.specs.declared.option.Option.{Option}
 use Rattle.std.specs.declared.option.Option.the-variants.{Some, None}
 use Rattle.notation.specs.Kind.{Kind}
@@ -16,8 +17,11 @@ use Rattle.splitting.specs.Rest.{Rest, Begins}
 use Rattle.splitting.specs.Answer.{NotAfter}
 use Rattle.splitting.specs.declared.Place.{Place}
 use Rattle.finder.specs.Rows.{column-of, track-of}
-use Rattle.finder.specs.Resting.{Posed}
+use Rattle.finder.specs.Resting.{Posed, Wanted, RowsRight, row-of}
 use Rattle.finder.specs.Topmost.{place-at}
+use Rattle.finder.specs.Workspace.{Counted, workspace}
+use Rattle.finder.specs.Tables.{Surveyed, Marks}
+use Rattle.finder.specs.declared.table.Ground.{Ground}
 use Rattle.finder.specs.declared.candidates.Choice.{Choice}
 
 -- a question about a score, with its kind of symbols, its mode, its limit and its query
@@ -38,6 +42,31 @@ pub record Candidate (kind : Kind) (mode : Mode) (counts : List ℕ) (first b : 
 abbrev pub CandidateTo : Kind → Mode → List ℕ → ℕ → ℕ → Option ℤ → Type 0
 CandidateTo kind mode counts first b None = (c : ℤ) → Candidate kind mode counts first b c → ⊥
 CandidateTo kind mode counts first b (Some by) = Candidate kind mode counts first b by
+
+-- a choice, if there is one, is under a candidate that leads to a byte
+abbrev pub UnderCandidate : {P : Type 0} → Kind → Mode → List ℕ → ℕ → Option (Choice P) → Type 0
+UnderCandidate kind mode counts first None = Unit {0}
+UnderCandidate kind mode counts first (Some o) = (b : ℕ) × (b < 256) × Candidate kind mode counts first b (o .shift)
+
+-- a sheet of this size has room for the rows of a query under a transposition
+pub record Roomy (kind : Kind) (counts bytes query : List ℕ) (shift : ℤ) (size : ℕ) : Type 0 where
+  pub mode : Mode
+  pub byte : ℕ
+  pub small : byte < 256
+  pub candidate : Candidate kind mode counts (note query 1) byte shift
+  pub fits : workspace kind mode bytes query ≤ size
+
+-- A score with its tables, a query of some notes, a list of a byte a note, and three sheets of the sizes told, with
+-- room for the rows under each candidate.
+pub record Ready {S : Type 0} (byte : S → ℕ) (kind : Kind) (mode : Mode) (ground : Ground S) (last counts : List ℕ) (query : List S) (want prices steps entries : ℕ) : Type 0 where
+  pub surveyed : Surveyed byte ground
+  pub marks : Marks (map byte (now (ground .cells))) last (length (map byte (now (ground .cells))))
+  pub counted : Counted counts (map byte (now (ground .cells)))
+  pub some : 1 ≤ length query
+  pub as-long : want ≡ length query
+  pub room-prices : workspace kind mode (map byte (now (ground .cells))) (map byte query) ≤ prices
+  pub room-steps : workspace kind mode (map byte (now (ground .cells))) (map byte query) ≤ steps
+  pub room-entries : workspace kind mode (map byte (now (ground .cells))) (map byte query) ≤ entries
 
 -- a choice costs no more than another, and lies at no later place if the other costs no more either
 pub record First {P : Type 0} (m : Pricing) (meaning : P → m .Meaning) (x y : Choice P) : Type 0 where
@@ -85,3 +114,15 @@ module _ {P : Type 0} (m : Pricing) (meaning : P → m .Meaning) (ask : Question
   abbrev pub OfAll : Option (Choice P) → Type 0
   OfAll None = (x : Place) (a : m .Meaning) → Begins m ask x a → ⊥
   OfAll (Some o) = BestOfAll o
+
+  -- the best rest of the query, with the rows under its transposition, in the first of which its price stands
+  pub record Settled (bytes : List ℕ) (limit : ℕ) (want : List ℕ) (prices : List (Option P)) (steps : List ℕ) (o : Choice P) : Type 0 where
+    pub best : BestOfAll o
+    pub row-is : row-of bytes want prices 0 (o .place) ≡ Some (o .price)
+    pub wanted : Wanted ask (o .shift) want
+    pub rows : RowsRight m meaning bytes tracks limit want prices steps 0
+
+  -- or absence where the query can be found nowhere
+  abbrev pub Settles : List ℕ → ℕ → List ℕ → List (Option P) → List ℕ → Option (Choice P) → Type 0
+  Settles bytes limit want prices steps None = OfAll None
+  Settles bytes limit want prices steps (Some o) = Settled bytes limit want prices steps o
