@@ -1,4 +1,5 @@
 //! Books: scores as bytes, and the blocks that they share with slips.
+#![tactic(auto)]
 
 mod block;
 mod fault;

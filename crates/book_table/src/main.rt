@@ -1,5 +1,6 @@
 //! Runs a table of books and slips, good and bad, and prints what the calls tell of each. The table
 //! and what should be printed come from `tools/book_cases.py`.
+#![tactic(auto)]
 
 mod again;
 mod damage;

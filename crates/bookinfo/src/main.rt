@@ -1,4 +1,5 @@
 //! Tells what the book on standard input is: kind, tracks and columns, or why it is refused.
+#![tactic(auto)]
 
 use anyhow::anyhow;
 use book::{DescribeFault, describe};

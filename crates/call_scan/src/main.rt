@@ -1,4 +1,5 @@
 //! Performs random lists of calls beside a plain model of them.
+#![tactic(auto)]
 
 mod model;
 mod random;

@@ -1,4 +1,5 @@
 //! Runs the search against an exhaustive search over all splittings, on small random questions.
+#![tactic(auto)]
 
 mod case;
 mod counted;

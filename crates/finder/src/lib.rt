@@ -1,6 +1,7 @@
 //! Scores, the terms of a search, questions, and lists of calls.
 //!
 //! What is promised of every list of calls stands in the contract of `perform`.
+#![tactic(auto)]
 
 mod call;
 mod changing;

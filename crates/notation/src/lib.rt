@@ -1,4 +1,5 @@
 //! Symbols of a score and the intervals between them.
+#![tactic(auto)]
 
 mod pitch;
 mod pitch_class;

@@ -1,4 +1,5 @@
 //! What a splitting costs, and the window that tells where to go on most cheaply.
+#![tactic(auto)]
 
 mod changes;
 mod changes_then_silence;

@@ -1,4 +1,5 @@
 //! From a book and a slip to the report on them.
+#![tactic(auto)]
 
 mod answering;
 mod fault;

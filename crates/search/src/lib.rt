@@ -1,4 +1,5 @@
 //! Finding a query in the symbols of a score.
+#![tactic(auto)]
 
 mod answering;
 mod candidates;

@@ -1,4 +1,5 @@
 //! Slips: questions as bytes.
+#![tactic(auto)]
 
 mod fault;
 mod view;

@@ -4,6 +4,7 @@
 //! asked), `Splitting` (pieces, hand-overs, gaps, prices) and `Answer` (ways, and what an answer
 //! must say). `Minimum` states the same problem in other terms, and `Rest` note by note. The
 //! functions below do nothing: each has theorems on these definitions for its contract.
+#![tactic(auto)]
 
 ghost use Rattle.splitting.specs.AnswerLaws.{AnswersFromRests, AnswersUnique, GrowthHarmless, TransposedAlike};
 ghost use Rattle.splitting.specs.Examples.{Examples};

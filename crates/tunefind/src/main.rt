@@ -1,4 +1,5 @@
 //! Finds the query of a slip in the score of a book, both on standard input, and prints the report.
+#![tactic(auto)]
 
 use anyhow::anyhow;
 use report::{ReportFault, report};

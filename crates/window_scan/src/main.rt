@@ -1,4 +1,5 @@
 //! Runs the window against a plain scan over all entries put in, on random cases.
+#![tactic(auto)]
 
 mod model;
 mod random;
