@@ -32,7 +32,7 @@ impl<P: Price> Entry<P> {
 
     // Whether going on here from `from` costs no more than going on there.
     pub(super) fn no_dearer(self, there: Entry<P>, from: u32) -> bool
-        ensures { Judged pricing meaning from self there result }
+        ensures { Judged P.pricing P.meaning from self there result }
     {
         let here_price = self.price.charged(self.gap_from(from));
         let there_price = there.price.charged(there.gap_from(from));

@@ -54,8 +54,8 @@ fn place_of<P: Price>(entries: &[Entry<P>], span: Span, from: u32, near: Entry<P
     requires { span.back ≤ length entries.now }
     ensures high { result ≤ span.back }
     ensures low { span.front ≤ span.back → span.front ≤ result }
-    ensures dropped { (a : ℕ) (d : Entry P) → result ≤ a → a < span.back → slice_get entries.now a ≡ Some d → Judged pricing meaning from near d true }
-    ensures stopped { (d : Entry P) → span.front < result → slice_get entries.now (result - 1) ≡ Some d → Judged pricing meaning from near d false }
+    ensures dropped { (a : ℕ) (d : Entry P) → result ≤ a → a < span.back → slice_get entries.now a ≡ Some d → Judged P.pricing P.meaning from near d true }
+    ensures stopped { (d : Entry P) → span.front < result → slice_get entries.now (result - 1) ≡ Some d → Judged P.pricing P.meaning from near d false }
 {
     let mut place = span.back;
     while place > span.front {
@@ -75,7 +75,7 @@ pub(super) fn keep<P: Price>(
     near: Entry<P>,
 ) -> Span
     requires { span.back < length entries.old }
-    ensures { (h : History P) → Spans pricing meaning entries.old span h → Accepts h from near → Spans pricing meaning entries.new result (put_in h from near) }
+    ensures { (h : History P) → Spans P.pricing P.meaning entries.old span h → Accepts h from near → Spans P.pricing P.meaning entries.new result (put_in h from near) }
 {
     let place = place_of(entries, span, from, near);
     entries[place] = near;
@@ -92,7 +92,7 @@ pub(super) fn keep<P: Price>(
 fn tied<P: Price>(entries: &[Entry<P>], front: usize, back: usize, from: u32) -> bool
     requires { (front < back) × (back ≤ length entries.now) }
     ensures next { result ≡ true → front + 1 < back }
-    ensures judged { (e d : Entry P) → front + 1 < back → slice_get entries.now front ≡ Some e → slice_get entries.now (front + 1) ≡ Some d → Judged pricing meaning from d e result }
+    ensures judged { (e d : Entry P) → front + 1 < back → slice_get entries.now front ≡ Some e → slice_get entries.now (front + 1) ≡ Some d → Judged P.pricing P.meaning from d e result }
 {
     front + 1 < back && entries[front + 1].no_dearer(entries[front], from)
 }
@@ -106,9 +106,9 @@ fn first_of<P: Price>(
     limit: u32,
 ) -> usize
     requires { back ≤ length entries.now }
-    ensures kept { (h : History P) → h.position ≡ from → h.limit ≡ limit → Kept pricing meaning entries.now front back h → Kept pricing meaning entries.now result back h }
+    ensures kept { (h : History P) → h.position ≡ from → h.limit ≡ limit → Kept P.pricing P.meaning entries.now front back h → Kept P.pricing P.meaning entries.now result back h }
     ensures within { (e : Entry P) → result < back → slice_get entries.now result ≡ Some e → gap from e ≤ limit }
-    ensures dearer { (e d : Entry P) → result + 1 < back → slice_get entries.now result ≡ Some e → slice_get entries.now (result + 1) ≡ Some d → Judged pricing meaning from d e false }
+    ensures dearer { (e d : Entry P) → result + 1 < back → slice_get entries.now result ≡ Some e → slice_get entries.now (result + 1) ≡ Some d → Judged P.pricing P.meaning from d e false }
 {
     let mut first = front;
     while first < back {
@@ -128,7 +128,7 @@ pub(super) fn lead<P: Price>(
     from: u32,
 ) -> (Span, Option<Entry<P>>)
     ensures same { entries.new ≡ entries.old }
-    ensures tells { (h : History P) → from ≤ h.position → Spans pricing meaning entries.old span h → Spans pricing meaning entries.old result.0 (moved h from) × Told pricing meaning (moved h from) result.1 }
+    ensures tells { (h : History P) → from ≤ h.position → Spans P.pricing P.meaning entries.old span h → Spans P.pricing P.meaning entries.old result.0 (moved h from) × Told P.pricing P.meaning (moved h from) result.1 }
 {
     let back = span.back.min(entries.len());
     let front = first_of(entries, span.front, back, from, span.limit);

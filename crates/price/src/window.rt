@@ -26,7 +26,7 @@ impl<'a, P: Price> Window<'a, P> {
     /// A window that tells entries at a gap of at most `limit`. Memory for as many entries as
     /// will be put in always suffices.
     pub fn new(entries: &'a mut [Entry<P>], limit: u32) -> Window<'a, P>
-        ensures { Holds pricing meaning result (fresh (length entries.old) limit) }
+        ensures { Holds P.pricing P.meaning result (fresh (length entries.old) limit) }
     {
         Window {
             entries,
@@ -38,7 +38,7 @@ impl<'a, P: Price> Window<'a, P> {
     /// put in before. The entry comes back, and nothing changes, where that is not so, where the
     /// move is to a later position, and where the memory is full.
     pub fn put(&mut self, from: u32, entry: Entry<P>) -> Result<(), Entry<P>>
-        ensures { MatchResult result (λ _. Taken pricing meaning self.old self.new from entry) (λ back. Returned pricing meaning self.old self.new from entry back) }
+        ensures { MatchResult result (λ _. Taken P.pricing P.meaning self.old self.new from entry) (λ back. Returned P.pricing P.meaning self.old self.new from entry back) }
     {
         let span = self.span;
         if !span.takes(from, entry.position, self.entries.len()) {
@@ -52,7 +52,7 @@ impl<'a, P: Price> Window<'a, P> {
     /// gap of at most the limit; of equals the one put in last. A later position than the one
     /// reached is `Passed`, and nothing changes.
     pub fn least(&mut self, from: u32) -> Result<Option<Entry<P>>, Passed>
-        ensures { MatchResult result (λ told. Answered pricing meaning self.old self.new from told) (λ _. Left pricing meaning self.old self.new from) }
+        ensures { MatchResult result (λ told. Answered P.pricing P.meaning self.old self.new from told) (λ _. Left P.pricing P.meaning self.old self.new from) }
     {
         let span = self.span;
         if span.has_passed(from) {

@@ -17,9 +17,9 @@ returns g c =
           let xs = c.args.entries.now in
           let from = c.args.from in
           let here = moved h from in
-          let front = c.first-of-front.result in
+          let front = c.first_of-front.result in
           let back = c.min-back.result in
-          let k = c.first-of-front.ensures.kept here refl (sym old.limit) (kept_within p meaning xs c.args.span h old from back c.min-back.ensures onward) in (
+          let k = c.first_of-front.ensures.kept here refl (sym old.limit) (kept_within p meaning xs c.args.span h old from back c.min-back.ensures onward) in (
             spans_moved p meaning xs c.args.span h old from front back k,
             elim c.if-front-back.branch [
               | then-front-back w ↦
@@ -28,8 +28,8 @@ returns g c =
                   let n = slice_get_read xs (length xs) front e refl (omega (arith, k.inside)) w.index-entries-front.is in
                   subst (Told p meaning here) (sym w.told-is)
                   (told_front p meaning g.met.P.Price.lawful xs front back here k l e n
-                  (subst (λ limit. gap from e ≤ limit) old.limit (c.first-of-front.ensures.within e l n))
-                  (λ d m o. c.first-of-front.ensures.dearer e d m n o))
+                  (subst (λ limit. gap from e ≤ limit) old.limit (c.first_of-front.ensures.within e l n))
+                  (λ d m o. c.first_of-front.ensures.dearer e d m n o))
               | else-front-back w ↦ subst (Told p meaning here) (sym w.told-is) (told_none p meaning xs front back here k w.if-front-back.false)
             ],
           );

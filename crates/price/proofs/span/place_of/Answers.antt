@@ -28,7 +28,7 @@ loop-place-preserved g c = (
         | inl q ↦
             judged_same g.P.Price.pricing g.P.Price.meaning c.args.from {e = c.args.near} refl
             (read_is c.args.entries.now (c.loop-place.place - 1) _ d (omega arith) c.index-entries-place.is (subst (λ i. slice_get c.args.entries.now i ≡ Some d) (omega arith) n))
-            c.if-not-no-dearer.false
+            c.if-not-no_dearer.false
             c.no_dearer.ensures
         | inr q ↦ c.loop-place.invariant.2 a d q m n
       ]),
