@@ -15,7 +15,7 @@ use notation::Symbol;
 
 /// Checks a whole book, block by block, and tells its shape.
 pub(crate) fn read_shape<S: Symbol>(input: &[u8]) -> Result<Shape, BookFault>
-    ensures { MatchResult result (λ s. (book_refusal kind input.now ≡ None) × (s ≡ title_shape input.now)) (λ f. book_refusal kind input.now ≡ Some (book_told f)) }
+    ensures { MatchResult result (λ s. (book_refusal S.kind input.now ≡ None) × (s ≡ title_shape input.now)) (λ f. book_refusal S.kind input.now ≡ Some (book_told f)) }
 {
     let blocks = count_blocks(input)?;
     let mut stage = Stage::Title;
@@ -41,7 +41,7 @@ fn next_block<S: Symbol>(stage: Stage, n: usize, bytes: &[u8]) -> Result<Stage, 
     requires fact { Open stage }
     requires n_bound { n < 2 ^ 55 }
     requires bytes_len { length bytes.now ≡ 512 }
-    ensures { MatchResult result (λ s. (then (block_refusal n bytes.now) (turn_refusal kind stage n bytes.now) ≡ None) × (s ≡ after stage bytes.now) × Open s) (λ f. then (block_refusal n bytes.now) (turn_refusal kind stage n bytes.now) ≡ Some (book_told f)) }
+    ensures { MatchResult result (λ s. (then (block_refusal n bytes.now) (turn_refusal S.kind stage n bytes.now) ≡ None) × (s ≡ after stage bytes.now) × Open s) (λ f. then (block_refusal n bytes.now) (turn_refusal S.kind stage n bytes.now) ≡ Some (book_told f)) }
 {
     let mark = block::checked(n, bytes)?;
     stage.next::<S>(n, mark, bytes)

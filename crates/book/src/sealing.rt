@@ -65,7 +65,7 @@ pub(crate) fn seal(out: &mut [u8], letter: u8, kind: u8, number: u16, len: u16)
 /// Writes symbols as the payload of a block, from a place on.
 pub(crate) fn put_symbols<S: Symbol>(out: &mut [u8], at: usize, symbols: &[S])
     requires { at + length symbols.now ≤ length out.old }
-    ensures { out.new ≡ take at out.old ++ (map byte symbols.now ++ drop (at + length symbols.now) out.old) }
+    ensures { out.new ≡ take at out.old ++ (map S.byte symbols.now ++ drop (at + length symbols.now) out.old) }
 {
     for (i, s) in symbols.iter().enumerate() {
         out[at + i] = s.write();
@@ -91,7 +91,7 @@ pub fn put_block<S: Symbol>(
     symbols: &[S],
     out: &mut [u8],
 ) -> Result<usize, TooShort>
-    ensures { Written (block_bytes letter kind.number number (take 502 (front.now ++ map byte symbols.now))) out.old out.new result }
+    ensures { Written (block_bytes letter S.kind.number number (take 502 (front.now ++ map S.byte symbols.now))) out.old out.new result }
 {
     has_room(out, 512)?;
     fill_block::<S>(&mut out[0..512], letter, number, front, symbols);
@@ -100,7 +100,7 @@ pub fn put_block<S: Symbol>(
 
 fn fill_block<S: Symbol>(out: &mut [u8], letter: u8, number: u16, front: &[u8], symbols: &[S])
     requires { length out.old ≡ 512 }
-    ensures { out.new ≡ block_bytes letter kind.number number (take 502 (front.now ++ map byte symbols.now)) }
+    ensures { out.new ≡ block_bytes letter S.kind.number number (take 502 (front.now ++ map S.byte symbols.now)) }
 {
     let before = front.len().min(502);
     let after = symbols.len().min(502 - before);

@@ -39,7 +39,7 @@ impl Stage {
         requires bytes_len { length bytes.now ≡ 512 }
         requires mark_value { letter_byte mark ≡ letter bytes.now }
         requires bytes_bound { payload_length bytes.now ≤ 502 }
-        ensures { MatchResult result (λ s. (turn_refusal kind self block bytes.now ≡ None) × (s ≡ after self bytes.now) × Open s) (λ f. turn_refusal kind self block bytes.now ≡ Some (book_told f)) }
+        ensures { MatchResult result (λ s. (turn_refusal S.kind self block bytes.now ≡ None) × (s ≡ after self bytes.now) × Open s) (λ f. turn_refusal S.kind self block bytes.now ≡ Some (book_told f)) }
     {
         match (self, mark) {
             (Stage::Title, Letter::Title) => title::<S>(block, bytes),
@@ -81,14 +81,14 @@ impl Shape {
 
 /// Whether a block's own kind and number are those that its place asks for.
 pub fn is_expected<S: Symbol>(block: usize, of: u8, number: u16) -> bool
-    ensures { result ≡ (number == block && of == kind.number) }
+    ensures { result ≡ (number == block && of == S.kind.number) }
 {
     number as usize == block && of == S::number()
 }
 
 /// Whether the kind reads a byte.
 fn reads<S: Symbol>(b: u8) -> bool
-    ensures { result ≡ readable kind b }
+    ensures { result ≡ readable S.kind b }
 {
     match S::read(b) {
         Some(_) => true,
@@ -98,7 +98,7 @@ fn reads<S: Symbol>(b: u8) -> bool
 
 /// The number of bytes in front that the kind can read.
 pub fn readable_front<S: Symbol>(bytes: &[u8]) -> usize
-    ensures { result ≡ prefix_len (readable kind) bytes.now }
+    ensures { result ≡ prefix_len (readable S.kind) bytes.now }
 {
     for (i, b) in bytes.iter().enumerate() {
         if !reads::<S>(*b) {
@@ -111,7 +111,7 @@ pub fn readable_front<S: Symbol>(bytes: &[u8]) -> usize
 fn title<S: Symbol>(block: usize, bytes: &[u8]) -> Result<Stage, BookFault>
     requires bytes_len { length bytes.now ≡ 512 }
     requires bytes_value { letter bytes.now ≡ 72 }
-    ensures { MatchResult result (λ s. (title_refusal kind block bytes.now ≡ None) × (s ≡ opened (title_shape bytes.now) 0) × Open s) (λ f. title_refusal kind block bytes.now ≡ Some (book_told f)) }
+    ensures { MatchResult result (λ s. (title_refusal S.kind block bytes.now ≡ None) × (s ≡ opened (title_shape bytes.now) 0) × Open s) (λ f. title_refusal S.kind block bytes.now ≡ Some (book_told f)) }
 {
     if !is_expected::<S>(block, bytes[1], two_bytes(bytes[2], bytes[3])) {
         return Err(BookFault::Unexpected { block });
@@ -137,7 +137,7 @@ fn columns<S: Symbol>(
     requires bytes_len { length bytes.now ≡ 512 }
     requires bytes_value { letter bytes.now ≡ 67 }
     requires bytes_bound { payload_length bytes.now ≤ 502 }
-    ensures { MatchResult result (λ s. (columns_refusal kind shape read block bytes.now ≡ None) × (s ≡ opened shape (read + due shape read)) × Open s) (λ f. columns_refusal kind shape read block bytes.now ≡ Some (book_told f)) }
+    ensures { MatchResult result (λ s. (columns_refusal S.kind shape read block bytes.now ≡ None) × (s ≡ opened shape (read + due shape read)) × Open s) (λ f. columns_refusal S.kind shape read block bytes.now ≡ Some (book_told f)) }
 {
     if !is_expected::<S>(block, bytes[1], two_bytes(bytes[2], bytes[3])) {
         return Err(BookFault::Unexpected { block });

@@ -35,7 +35,7 @@ fn text_of(heap: Global, input: &[u8]) -> Result<String, AllocError>
 }
 
 fn text_as<S: Symbol>(heap: Global, input: &[u8]) -> Result<String, AllocError>
-    ensures { IfOk result (λ t. string_bytes t ≡ description_as kind input.now) }
+    ensures { IfOk result (λ t. string_bytes t ≡ description_as S.kind input.now) }
 {
     match Book::<S>::read(input) {
         Ok(book) => {

@@ -21,7 +21,7 @@ pub struct Book<'a, S> {
 impl<'a, S: Symbol> Book<'a, S> {
     /// Reads a book. All of it is checked before anything is told.
     pub fn read(input: &'a [u8]) -> Result<Book<'a, S>, BookFault>
-        ensures { Reading kind input.now result }
+        ensures { Reading S.kind input.now result }
     {
         match read_shape::<S>(input) {
             Ok(shape) => Ok(Book {
@@ -34,20 +34,20 @@ impl<'a, S: Symbol> Book<'a, S> {
     }
 
     pub fn tracks(&self) -> usize
-        ensures { (g : Grid) → Holds kind self.now g → result ≡ g.tracks }
+        ensures { (g : Grid) → Holds S.kind self.now g → result ≡ g.tracks }
     {
         self.shape.tracks as usize
     }
 
     pub fn columns(&self) -> usize
-        ensures { (g : Grid) → Holds kind self.now g → result ≡ g.columns }
+        ensures { (g : Grid) → Holds S.kind self.now g → result ≡ g.columns }
     {
         self.shape.columns as usize
     }
 
     /// The symbol in a column on a track, both counted from 1; absent where there is no such place.
     pub fn symbol(&self, column: usize, track: usize) -> Option<S>
-        ensures { (g : Grid) → Holds kind self.now g → Told byte g column track result }
+        ensures { (g : Grid) → Holds S.kind self.now g → Told S.byte g column track result }
     {
         match self.cell(column, track) {
             Some(b) => S::read(b),

@@ -13,7 +13,7 @@ use notation::Symbol;
 impl<S: Symbol> Grid<'_, S> {
     /// Writes the score as a book to the front of an output, or tells the bytes needed.
     pub fn write(&self, out: &mut [u8]) -> Result<usize, TooShort>
-        ensures { Written (bytes_of kind (spelled byte self.now.tracks self.now.columns self.now.symbols.now)) out.old out.new result }
+        ensures { Written (bytes_of S.kind (spelled S.byte self.now.tracks self.now.columns self.now.symbols.now)) out.old out.new result }
     {
         let blocks = blocks_for(self.tracks, self.columns);
         let needed = 512 * (1 + blocks);
@@ -42,7 +42,7 @@ fn write_title(out: &mut [u8], kind: u8, tracks: u8, columns: u16)
 fn write_block<S: Symbol>(out: &mut [u8], number: u16, symbols: &[S])
     requires out_len { length out.old ≡ 512 }
     requires symbols_len_bound { length symbols.now ≤ 502 }
-    ensures { out.new ≡ block_bytes columns_letter kind.number number (map byte symbols.now) }
+    ensures { out.new ≡ block_bytes columns_letter S.kind.number number (map S.byte symbols.now) }
 {
     put_symbols::<S>(out, 6, symbols);
     seal(out, 67, S::number(), number, symbols.len() as u16);
@@ -52,7 +52,7 @@ fn write_block<S: Symbol>(out: &mut [u8], number: u16, symbols: &[S])
 fn write_columns<S: Symbol>(out: &mut [u8], symbols: &[S], a_block: usize, blocks: usize)
     requires blocks_in_bounds { 512 * (1 + blocks) ≤ length out.old }
     requires a_block_bound { (a_block ≤ 502) × (blocks < 65536) }
-    ensures { out.new ≡ take 512 out.old ++ column_blocks kind.number a_block 1 blocks (map byte symbols.now) ++ drop (512 * (1 + blocks)) out.old }
+    ensures { out.new ≡ take 512 out.old ++ column_blocks S.kind.number a_block 1 blocks (map S.byte symbols.now) ++ drop (512 * (1 + blocks)) out.old }
 {
     for m in 0..blocks {
         let n = m + 1;

@@ -24,7 +24,7 @@ pub(crate) fn try_append<S: Symbol, P: Price, R: Price>(
     score: &mut Score<S>,
     column: &[S],
 ) -> Outcome<S, P, R>
-    ensures { ScoreTried kind byte (prices_of P.Price.pricing P.Price.meaning R.Price.pricing R.Price.meaning) score.old (appends (map byte column.now)) score.new result }
+    ensures { ScoreTried S.kind S.byte (prices_of P.pricing P.meaning R.pricing R.meaning) score.old (appends (map S.byte column.now)) score.new result }
 {
     settle_change(score.append(column))
 }
@@ -35,7 +35,7 @@ pub(crate) fn try_correct<S: Symbol, P: Price, R: Price>(
     track: usize,
     symbol: S,
 ) -> Outcome<S, P, R>
-    ensures { ScoreTried kind byte (prices_of P.Price.pricing P.Price.meaning R.Price.pricing R.Price.meaning) score.old (corrects column track (byte symbol)) score.new result }
+    ensures { ScoreTried S.kind S.byte (prices_of P.pricing P.meaning R.pricing R.meaning) score.old (corrects column track (S.byte symbol)) score.new result }
 {
     settle_change(score.correct(column, track, symbol))
 }
@@ -44,7 +44,7 @@ pub(crate) fn try_cut<S: Symbol, P: Price, R: Price>(
     score: &mut Score<S>,
     columns: usize,
 ) -> Outcome<S, P, R>
-    ensures { ScoreTried kind byte (prices_of P.Price.pricing P.Price.meaning R.Price.pricing R.Price.meaning) score.old (cuts columns) score.new result }
+    ensures { ScoreTried S.kind S.byte (prices_of P.pricing P.meaning R.pricing R.meaning) score.old (cuts columns) score.new result }
 {
     settle_change(score.cut(columns))
 }
@@ -53,7 +53,7 @@ pub(crate) fn try_fill<S: Symbol, P: Price, R: Price>(
     score: &mut Score<S>,
     book: &[u8],
 ) -> Outcome<S, P, R>
-    ensures { ScoreTried kind byte (prices_of P.Price.pricing P.Price.meaning R.Price.pricing R.Price.meaning) score.old (fills book.now) score.new result }
+    ensures { ScoreTried S.kind S.byte (prices_of P.pricing P.meaning R.pricing R.meaning) score.old (fills book.now) score.new result }
 {
     settle_change(score.fill(book))
 }

@@ -12,7 +12,7 @@ use notation::Symbol;
 impl<S: Symbol> Score<S> {
     /// Puts a column last.
     pub fn append(&mut self, column: &[S]) -> Result<(), ScoreFault>
-        ensures { Changed byte (append_refusal self.old.tracks self.old.capacity self.old.columns (length column.now)) (appended (columns_held byte self.old) (map byte column.now)) self.old self.new result }
+        ensures { Changed S.byte (append_refusal self.old.tracks self.old.capacity self.old.columns (length column.now)) (appended (columns_held S.byte self.old) (map S.byte column.now)) self.old self.new result }
     {
         let tracks = column.len();
         if tracks != self.tracks {
@@ -30,7 +30,7 @@ impl<S: Symbol> Score<S> {
 
     /// Puts another symbol into a column on a track, both counted from 1.
     pub fn correct(&mut self, column: usize, track: usize, symbol: S) -> Result<(), ScoreFault>
-        ensures { Changed byte (correct_refusal self.old.tracks self.old.columns column track) (corrected (columns_held byte self.old) column track (byte symbol)) self.old self.new result }
+        ensures { Changed S.byte (correct_refusal self.old.tracks self.old.columns column track) (corrected (columns_held S.byte self.old) column track (S.byte symbol)) self.old self.new result }
     {
         if column < 1 || column > self.columns {
             return Err(ScoreFault::NoColumn { column });
@@ -45,7 +45,7 @@ impl<S: Symbol> Score<S> {
 
     /// Keeps so many first columns.
     pub fn cut(&mut self, columns: usize) -> Result<(), ScoreFault>
-        ensures { Changed byte (cut_refusal self.old.columns columns) (first_columns (columns_held byte self.old) columns) self.old self.new result }
+        ensures { Changed S.byte (cut_refusal self.old.columns columns) (first_columns (columns_held S.byte self.old) columns) self.old self.new result }
     {
         if columns > self.columns {
             return Err(ScoreFault::TooFew { columns });
@@ -56,7 +56,7 @@ impl<S: Symbol> Score<S> {
 
     /// The symbol in a column on a track, both counted from 1; absent where there is no such place.
     pub fn symbol(&self, column: usize, track: usize) -> Option<S>
-        ensures { SymbolTold byte self.now column track result }
+        ensures { SymbolTold S.byte self.now column track result }
     {
         if column < 1 || column > self.columns || track < 1 || track > self.tracks {
             return None;

@@ -17,9 +17,9 @@ impl<S: Symbol> Score<S> {
     /// Puts a book's columns in the place of all. The whole book is checked before the first symbol
     /// is written.
     pub fn fill(&mut self, input: &[u8]) -> Result<(), ScoreFault>
-        ensures change { Changed byte (fill_refusal kind self.old.tracks self.old.capacity input.now) (book_columns input.now) self.old self.new result }
-        ensures again { HoldsAgain kind byte input.now self.old self.new result }
-        ensures written { WrittenAgain kind byte input.now self.old self.new result }
+        ensures change { Changed S.byte (fill_refusal S.kind self.old.tracks self.old.capacity input.now) (book_columns input.now) self.old self.new result }
+        ensures again { HoldsAgain S.kind S.byte input.now self.old self.new result }
+        ensures written { WrittenAgain S.kind S.byte input.now self.old self.new result }
     {
         let book = Book::<S>::read(input)?;
         let tracks = book.tracks();
@@ -38,8 +38,8 @@ impl<S: Symbol> Score<S> {
 
     /// Writes the score as a book to the front of an output, or tells the bytes needed.
     pub fn write(&self, out: &mut [u8]) -> Result<usize, TooShort>
-        ensures written { Written (bytes_of kind (score_grid byte self.now)) out.old out.new result }
-        ensures spelled { Spelled kind byte self.now }
+        ensures written { Written (bytes_of S.kind (score_grid S.byte self.now)) out.old out.new result }
+        ensures spelled { Spelled S.kind S.byte self.now }
     {
         let used = self.columns * self.tracks;
         let grid = Grid::new(self.tracks, &self.memory[0..used]);
@@ -51,7 +51,7 @@ impl<S: Symbol> Score<S> {
 fn copy_symbols<S: Symbol>(book: &Book<'_, S>, tracks: usize, count: usize, memory: &mut [S])
     requires le_tracks { 1 ≤ tracks }
     requires count_in_bounds { count ≤ length memory.old }
-    ensures { (g : Held) → Holds kind book.now g → g.tracks ≡ tracks → count ≡ g.columns * g.tracks → map byte memory.new ≡ g.cells ++ drop count (map byte memory.old) }
+    ensures { (g : Held) → Holds S.kind book.now g → g.tracks ≡ tracks → count ≡ g.columns * g.tracks → map S.byte memory.new ≡ g.cells ++ drop count (map S.byte memory.old) }
 {
     for i in 0..count {
         if let Some(symbol) = book.symbol(i / tracks + 1, i % tracks + 1) {

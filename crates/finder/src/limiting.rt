@@ -30,7 +30,7 @@ pub(crate) fn try_set<S: Symbol, P: Price, R: Price>(
     limit: u32,
     mode: Mode,
 ) -> Outcome<S, P, R>
-    ensures { TermsTried kind byte (prices_of P.Price.pricing P.Price.meaning R.Price.pricing R.Price.meaning) terms.old tried.now.items (sets limit mode) terms.new tried.now.items result }
+    ensures { TermsTried S.kind S.byte (prices_of P.pricing P.meaning R.pricing R.meaning) terms.old tried.now.items (sets limit mode) terms.new tried.now.items result }
 {
     if tried.len() > 0 {
         return Outcome::NoCall;
@@ -49,7 +49,7 @@ pub(crate) fn try_begin<S: Symbol, P: Price, R: Price>(
     tried: &mut Vec<Limit>,
     limit: u32,
 ) -> Result<Outcome<S, P, R>, AllocError>
-    ensures { IfOk result (λ o. TermsTried kind byte (prices_of P.Price.pricing P.Price.meaning R.Price.pricing R.Price.meaning) terms.now tried.old.items (begins limit) terms.now tried.new.items o) }
+    ensures { IfOk result (λ o. TermsTried S.kind S.byte (prices_of P.pricing P.meaning R.pricing R.meaning) terms.now tried.old.items (begins limit) terms.now tried.new.items o) }
 {
     match Limit::new(limit) {
         Ok(lawful) => {
@@ -64,7 +64,7 @@ pub(crate) fn try_end<S: Symbol, P: Price, R: Price>(
     terms: &Terms,
     tried: &mut Vec<Limit>,
 ) -> Outcome<S, P, R>
-    ensures { TermsTried kind byte (prices_of P.Price.pricing P.Price.meaning R.Price.pricing R.Price.meaning) terms.now tried.old.items ends terms.now tried.new.items result }
+    ensures { TermsTried S.kind S.byte (prices_of P.pricing P.meaning R.pricing R.meaning) terms.now tried.old.items ends terms.now tried.new.items result }
 {
     match tried.pop() {
         Some(_) => Outcome::Done,

@@ -27,7 +27,7 @@ fn perform_call<S: Symbol, P: Price, R: Price>(
     tried: &mut Vec<Limit>,
     call: &Call<'_, S>,
 ) -> Result<Outcome<S, P, R>, AllocError>
-    ensures { IfOk result (λ o. Tried kind byte (prices_of P.Price.pricing P.Price.meaning R.Price.pricing R.Price.meaning) (ledger_of byte score.old terms.old tried.old.items) (command byte call.now) (ledger_of byte score.new terms.new tried.new.items) o) }
+    ensures { IfOk result (λ o. Tried S.kind S.byte (prices_of P.pricing P.meaning R.pricing R.meaning) (ledger_of S.byte score.old terms.old tried.old.items) (command S.byte call.now) (ledger_of S.byte score.new terms.new tried.new.items) o) }
 {
     match call {
         Call::Append(column) => Ok(try_append(score, column)),
@@ -66,7 +66,7 @@ pub fn perform<S: Symbol, P: Price, R: Price>(
     memory: Vec<S>,
     calls: &[Call<'_, S>],
 ) -> Result<Performance<S, P, R>, AllocError>
-    ensures { IfOk result (Performed kind byte (prices_of P.Price.pricing P.Price.meaning R.Price.pricing R.Price.meaning) tracks (vec_len memory) (map (command byte) calls.now)) }
+    ensures { IfOk result (Performed S.kind S.byte (prices_of P.pricing P.meaning R.pricing R.meaning) tracks (vec_len memory) (map (command S.byte) calls.now)) }
 {
     let checked = memory_checked::<S>(tracks, memory.len());
     let mut score = Score::new(tracks, memory);

@@ -16,7 +16,7 @@ use splitting::{Answer, Piece};
 impl<S: Symbol> Score<S> {
     // The columns held.
     fn grid(&self) -> Grid<'_, S>
-        ensures { spelled byte result ≡ columns_held byte self.now }
+        ensures { spelled S.byte result ≡ columns_held S.byte self.now }
     {
         let used = self.columns * self.tracks;
         Grid::new(self.tracks, &self.memory[0..used])
@@ -24,7 +24,7 @@ impl<S: Symbol> Score<S> {
 
     /// How long each of the three sheets must be that are lent to a question.
     pub fn workspace_size(&self, terms: &Terms, query: &[S]) -> Result<usize, QueryFault>
-        ensures { Sized (question kind byte self.now terms.now query.now) result }
+        ensures { Sized (question S.kind S.byte self.now terms.now query.now) result }
     {
         workspace_size(&self.grid(), terms.mode, query)
     }
@@ -40,7 +40,7 @@ impl<S: Symbol> Score<S> {
         window: &mut [Entry<P>],
         steps: &mut [u32],
     ) -> Result<Answer<P>, QuestionFault>
-        ensures { Sought pricing meaning (question kind byte self.now terms.now query.now) (question_refusal (question kind byte self.now terms.now query.now) (length list.old) (length prices.old) (length window.old) (length steps.old)) list.old list.new ((prices.new ≡ prices.old) × (window.new ≡ window.old) × (steps.new ≡ steps.old)) result }
+        ensures { Sought P.pricing P.meaning (question S.kind S.byte self.now terms.now query.now) (question_refusal (question S.kind S.byte self.now terms.now query.now) (length list.old) (length prices.old) (length window.old) (length steps.old)) list.old list.new ((prices.new ≡ prices.old) × (window.new ≡ window.old) × (steps.new ≡ steps.old)) result }
     {
         find(
             &self.grid(),

@@ -36,7 +36,7 @@ fn repeated<T: Copy>(heap: Global, x: T, count: usize) -> Result<Vec<T>, AllocEr
 }
 
 fn rest_symbol<S: Symbol>() -> S
-    ensures { byte result ≡ rest }
+    ensures { S.byte result ≡ rest }
 {
     match S::read(255) {
         Some(symbol) => symbol,
@@ -50,7 +50,7 @@ pub(crate) fn try_size<S: Symbol, P: Price, R: Price>(
     tried: &Vec<Limit>,
     query: &[S],
 ) -> Outcome<S, P, R>
-    ensures { Tried kind byte (prices_of P.Price.pricing P.Price.meaning R.Price.pricing R.Price.meaning) (ledger_of byte score.now terms.now tried.now.items) (sizes (map byte query.now)) (ledger_of byte score.now terms.now tried.now.items) result }
+    ensures { Tried S.kind S.byte (prices_of P.pricing P.meaning R.pricing R.meaning) (ledger_of S.byte score.now terms.now tried.now.items) (sizes (map S.byte query.now)) (ledger_of S.byte score.now terms.now tried.now.items) result }
 {
     match score.workspace_size(terms, query) {
         Ok(size) => Outcome::Size(size),
@@ -64,7 +64,7 @@ pub(crate) fn try_transpose<S: Symbol, P: Price, R: Price>(
     by: i32,
     room: usize,
 ) -> Result<Outcome<S, P, R>, AllocError>
-    ensures { IfOk result (λ o. (l : Ledger) → Tried kind byte (prices_of P.Price.pricing P.Price.meaning R.Price.pricing R.Price.meaning) l (transposes (map byte query.now) by room) l o) }
+    ensures { IfOk result (λ o. (l : Ledger) → Tried S.kind S.byte (prices_of P.pricing P.meaning R.pricing R.meaning) l (transposes (map S.byte query.now) by room) l o) }
 {
     let mut list = repeated(heap, rest_symbol::<S>(), room.min(64))?;
     match transposed(query, by, &mut list) {
@@ -81,7 +81,7 @@ fn ask<S: Symbol, P: Price>(
     query: &[S],
     room: Room,
 ) -> Result<Result<Told<P>, Refusal>, AllocError>
-    ensures { IfOk result (AnsweredUnder pricing meaning (question kind byte score.now terms.now query.now) room) }
+    ensures { IfOk result (AnsweredUnder P.pricing P.meaning (question S.kind S.byte score.now terms.now query.now) room) }
 {
     let blank = Piece {
         first: 0,
@@ -120,7 +120,7 @@ fn ask_under<S: Symbol, P: Price>(
     query: &[S],
     room: Room,
 ) -> Result<Result<Told<P>, Refusal>, AllocError>
-    ensures told { IfOk result (AnsweredUnder pricing meaning (under kind byte score.now limit.value terms.old.mode query.now) room) }
+    ensures told { IfOk result (AnsweredUnder P.pricing P.meaning (under S.kind S.byte score.now limit.value terms.old.mode query.now) room) }
     ensures limit { terms.new.limit ≡ terms.old.limit }
     ensures mode { terms.new.mode ≡ terms.old.mode }
 {
@@ -156,7 +156,7 @@ pub(crate) fn try_ask<S: Symbol, P: Price, R: Price>(
     room: Room,
     at: PriceKind,
 ) -> Result<Outcome<S, P, R>, AllocError>
-    ensures { IfOk result (λ o. Tried kind byte (prices_of P.Price.pricing P.Price.meaning R.Price.pricing R.Price.meaning) (ledger_of byte score.now terms.old tried.now.items) (asks (map byte query.now) room at) (ledger_of byte score.now terms.new tried.now.items) o) }
+    ensures { IfOk result (λ o. Tried S.kind S.byte (prices_of P.pricing P.meaning R.pricing R.meaning) (ledger_of S.byte score.now terms.old tried.now.items) (asks (map S.byte query.now) room at) (ledger_of S.byte score.now terms.new tried.now.items) o) }
 {
     let limit = limit_in_force(terms, tried);
     match at {

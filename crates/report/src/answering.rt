@@ -33,7 +33,7 @@ fn turned_away<S: Symbol>(
     refusal: Refusal,
 ) -> Result<String, AllocError>
     requires { (1 ≤ tracks) × (tracks ≤ 16) × (vec_len memory ≡ room_for tracks * tracks) }
-    ensures { IfOk result (λ t. string_bytes t ≡ refused_line (first_of (fill_refusal kind tracks (room_for tracks) book.now) refusal)) }
+    ensures { IfOk result (λ t. string_bytes t ≡ refused_line (first_of (fill_refusal S.kind tracks (room_for tracks) book.now) refusal)) }
 {
     let mut calls = Vec::new(heap);
     calls.push(Call::Fill(book))?;
@@ -54,7 +54,7 @@ fn told_of<'a, S: Symbol>(
     query: &'a [S],
 ) -> Result<String, AllocError>
     requires { (1 ≤ tracks) × (tracks ≤ 16) × (vec_len memory ≡ room_for tracks * tracks) }
-    ensures { IfOk result (λ t. (q : Inquiry) → Poses limit mode price (map byte query.now) q → InquiryTold kind tracks book.now q (string_bytes t)) }
+    ensures { IfOk result (λ t. (q : Inquiry) → Poses limit mode price (map S.byte query.now) q → InquiryTold S.kind tracks book.now q (string_bytes t)) }
 {
     let at = kind_at(price);
     let mut calls = Vec::new(heap);
@@ -79,7 +79,7 @@ fn answered<S: Symbol>(
     slip: &Slip<'_, S>,
 ) -> Result<String, AllocError>
     requires { (1 ≤ tracks) × (tracks ≤ 16) × (vec_len memory ≡ room_for tracks * tracks) }
-    ensures { IfOk result (λ t. (q : Inquiry) → Asks kind slip.now q → InquiryTold kind tracks book.now q (string_bytes t)) }
+    ensures { IfOk result (λ t. (q : Inquiry) → Asks S.kind slip.now q → InquiryTold S.kind tracks book.now q (string_bytes t)) }
 {
     let query = query_of(heap, slip)?;
     let limit = u32::from(slip.limit());
@@ -103,7 +103,7 @@ pub(crate) fn text_as<S: Symbol>(
     slip: &[u8],
 ) -> Result<String, AllocError>
     requires { (1 ≤ tracks) × (tracks ≤ 16) }
-    ensures { IfOk result (λ t. PartsTold kind tracks book.now slip.now (string_bytes t)) }
+    ensures { IfOk result (λ t. PartsTold S.kind tracks book.now slip.now (string_bytes t)) }
 {
     let memory = rests::<S>(heap, 4096 / tracks * tracks)?;
     match Slip::<S>::read(slip) {

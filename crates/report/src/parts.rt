@@ -54,7 +54,7 @@ pub(crate) fn kind_at(price: slip::PriceKind) -> finder::PriceKind
 }
 
 fn rest_symbol<S: Symbol>() -> S
-    ensures { byte result ≡ rest }
+    ensures { S.byte result ≡ rest }
 {
     match S::read(255) {
         Some(symbol) => symbol,
@@ -75,7 +75,7 @@ pub(crate) fn rests<S: Symbol>(heap: Global, count: usize) -> Result<Vec<S>, All
 
 // The notes of a slip's query.
 pub(crate) fn query_of<S: Symbol>(heap: Global, slip: &Slip<'_, S>) -> Result<Vec<S>, AllocError>
-    ensures { IfOk result (λ v. (q : Inquiry) → Asks kind slip.now q → map byte v.items ≡ q.query) }
+    ensures { IfOk result (λ v. (q : Inquiry) → Asks S.kind slip.now q → map S.byte v.items ≡ q.query) }
 {
     let mut query = Vec::new(heap);
     for n in 0..slip.notes() {

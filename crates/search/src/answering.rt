@@ -28,9 +28,9 @@ fn answer_from<S: Symbol, P: Price>(
     window: &mut [Entry<P>],
     steps: &mut [u32],
 ) -> Answer<P>
-    requires granted { Granted (map byte ground.cells.now) ground.tracks kind mode limit (map byte query.now) (length list.old) (length prices.old) (length window.old) (length steps.old) }
-    requires ready { Ready byte kind mode ground last.now counts.now query.now (length want.old) (length prices.old) (length steps.old) (length window.old) }
-    ensures { (ask : Question) → Asked ask (map byte ground.entry.cells.now) ground.entry.tracks kind mode limit (map byte query.now) → Answers ask pricing (meant meaning result) list.old list.new }
+    requires granted { Granted (map S.byte ground.cells.now) ground.tracks S.kind mode limit (map S.byte query.now) (length list.old) (length prices.old) (length window.old) (length steps.old) }
+    requires ready { Ready S.byte S.kind mode ground last.now counts.now query.now (length want.old) (length prices.old) (length steps.old) (length window.old) }
+    ensures { (ask : Question) → Asked ask (map S.byte ground.entry.cells.now) ground.entry.tracks S.kind mode limit (map S.byte query.now) → Answers ask P.pricing (meant P.meaning result) list.old list.new }
 {
     let found = settle(
         ground, last, counts, mode, query, limit, want, prices, steps, window,
@@ -61,8 +61,8 @@ pub(crate) fn answer<S: Symbol, P: Price>(
     window: &mut [Entry<P>],
     steps: &mut [u32],
 ) -> Answer<P>
-    requires { Granted (map byte cells.now) tracks kind mode limit (map byte query.now) (length list.old) (length prices.old) (length window.old) (length steps.old) }
-    ensures { (ask : Question) → Asked ask (map byte cells.now) tracks kind mode limit (map byte query.now) → Answers ask pricing (meant meaning result) list.old list.new }
+    requires { Granted (map S.byte cells.now) tracks S.kind mode limit (map S.byte query.now) (length list.old) (length prices.old) (length window.old) (length steps.old) }
+    ensures { (ask : Question) → Asked ask (map S.byte cells.now) tracks S.kind mode limit (map S.byte query.now) → Answers ask P.pricing (meant P.meaning result) list.old list.new }
 {
     let mut previous = [0u32; 65536];
     let mut after = [0u16; 65536];

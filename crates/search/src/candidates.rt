@@ -28,7 +28,7 @@ pub(crate) struct Choice<P> {
 // The candidate that leads from the first note to a byte, if there is one.
 fn candidate_to<S: Symbol>(counts: &[u32; 256], mode: Mode, query: &[S], b: u8) -> Option<i32>
     requires { 1 ≤ length query.now }
-    ensures { CandidateTo kind mode counts.now (note (map byte query.now) 1) b result }
+    ensures { CandidateTo S.kind mode counts.now (note (map S.byte query.now) 1) b result }
 {
     if counts[b as usize] == 0 {
         return None;
@@ -58,7 +58,7 @@ fn all_held(counts: &[u32; 256], want: &[u8]) -> bool
 
 // Whether a choice is preferred to another: it is cheaper, or as cheap and at no later place.
 fn comes_first<P: Price>(one: Choice<P>, other: Choice<P>) -> bool
-    ensures { pricing.depth (meaning one.price) ≤ 63 → pricing.depth (meaning other.price) ≤ 63 → Decided pricing meaning one other result }
+    ensures { P.pricing.depth (P.meaning one.price) ≤ 63 → P.pricing.depth (P.meaning other.price) ≤ 63 → Decided P.pricing P.meaning one other result }
 {
     if one.price.not_above(other.price) {
         if one.place <= other.place {
@@ -74,7 +74,7 @@ fn comes_first<P: Price>(one: Choice<P>, other: Choice<P>) -> bool
 // The better of two choices: the cheaper one, of equals the one at the earlier place.
 fn preferred<P: Price>(one: Option<Choice<P>>, other: Option<Choice<P>>) -> Option<Choice<P>>
     ensures under { (k : Kind) (mode : Mode) (counts : List ℕ) (first : ℕ) → UnderCandidate k mode counts first one → UnderCandidate k mode counts first other → UnderCandidate k mode counts first result }
-    ensures best { (ask : Question) (tracks low mid high : ℕ) → Covered ask → 1 ≤ tracks → Among pricing meaning ask tracks low mid one → Among pricing meaning ask tracks mid high other → Among pricing meaning ask tracks low high result }
+    ensures best { (ask : Question) (tracks low mid high : ℕ) → Covered ask → 1 ≤ tracks → Among P.pricing P.meaning ask tracks low mid one → Among P.pricing P.meaning ask tracks mid high other → Among P.pricing P.meaning ask tracks low high result }
 {
     let Some(a) = one else {
         return other;
@@ -99,9 +99,9 @@ fn best_to<S: Symbol, P: Price>(
     steps: &mut [u32],
     entries: &mut [Entry<P>],
 ) -> Option<Choice<P>>
-    requires { Ready byte kind mode ground last.now counts.now query.now (length want.old) (length prices.old) (length steps.old) (length entries.old) }
-    ensures under { UnderCandidate kind mode counts.now (note (map byte query.now) 1) result }
-    ensures best { (ask : Question) → Asked ask (map byte ground.entry.cells.now) ground.entry.tracks kind mode limit (map byte query.now) → Among pricing meaning ask ground.entry.tracks b (b + 1) result }
+    requires { Ready S.byte S.kind mode ground last.now counts.now query.now (length want.old) (length prices.old) (length steps.old) (length entries.old) }
+    ensures under { UnderCandidate S.kind mode counts.now (note (map S.byte query.now) 1) result }
+    ensures best { (ask : Question) → Asked ask (map S.byte ground.entry.cells.now) ground.entry.tracks S.kind mode limit (map S.byte query.now) → Among P.pricing P.meaning ask ground.entry.tracks b (b + 1) result }
 {
     let Some(by) = candidate_to(counts, mode, query, b) else {
         return None;
@@ -135,9 +135,9 @@ pub(crate) fn best_of_all<S: Symbol, P: Price>(
     steps: &mut [u32],
     entries: &mut [Entry<P>],
 ) -> Option<Choice<P>>
-    requires { Ready byte kind mode ground last.now counts.now query.now (length want.old) (length prices.old) (length steps.old) (length entries.old) }
-    ensures under { UnderCandidate kind mode counts.now (note (map byte query.now) 1) result }
-    ensures best { (ask : Question) → Asked ask (map byte ground.entry.cells.now) ground.entry.tracks kind mode limit (map byte query.now) → OfAll pricing meaning ask ground.entry.tracks result }
+    requires { Ready S.byte S.kind mode ground last.now counts.now query.now (length want.old) (length prices.old) (length steps.old) (length entries.old) }
+    ensures under { UnderCandidate S.kind mode counts.now (note (map S.byte query.now) 1) result }
+    ensures best { (ask : Question) → Asked ask (map S.byte ground.entry.cells.now) ground.entry.tracks S.kind mode limit (map S.byte query.now) → OfAll P.pricing P.meaning ask ground.entry.tracks result }
 {
     let mut best = None;
     for b in 0..256usize {
@@ -163,15 +163,15 @@ pub(crate) fn refill<S: Symbol, P: Price>(
     steps: &mut [u32],
     entries: &mut [Entry<P>],
 ) -> Option<Choice<P>>
-    requires surveyed { Surveyed byte ground }
-    requires marks { Marks (map byte ground.cells.now) last.now (length (map byte ground.cells.now)) }
-    requires counted { Counted counts.now (map byte ground.cells.now) }
+    requires surveyed { Surveyed S.byte ground }
+    requires marks { Marks (map S.byte ground.cells.now) last.now (length (map S.byte ground.cells.now)) }
+    requires counted { Counted counts.now (map S.byte ground.cells.now) }
     requires in_bounds { 1 ≤ length query.now }
     requires want_len { length want.old ≡ length query.now }
-    requires roomy { Roomy kind counts.now (map byte ground.cells.now) (map byte query.now) choice.shift (length prices.old) }
-    requires roomy_2 { Roomy kind counts.now (map byte ground.cells.now) (map byte query.now) choice.shift (length steps.old) }
-    requires roomy_3 { Roomy kind counts.now (map byte ground.cells.now) (map byte query.now) choice.shift (length entries.old) }
-    ensures { (ask : Question) (mode : Mode) → Asked ask (map byte ground.entry.cells.now) ground.entry.tracks kind mode limit (map byte query.now) → BestOfAll pricing meaning ask ground.entry.tracks choice → Settles pricing meaning ask ground.entry.tracks (map byte ground.entry.cells.now) limit want.new prices.new steps.new result }
+    requires roomy { Roomy S.kind counts.now (map S.byte ground.cells.now) (map S.byte query.now) choice.shift (length prices.old) }
+    requires roomy_2 { Roomy S.kind counts.now (map S.byte ground.cells.now) (map S.byte query.now) choice.shift (length steps.old) }
+    requires roomy_3 { Roomy S.kind counts.now (map S.byte ground.cells.now) (map S.byte query.now) choice.shift (length entries.old) }
+    ensures { (ask : Question) (mode : Mode) → Asked ask (map S.byte ground.entry.cells.now) ground.entry.tracks S.kind mode limit (map S.byte query.now) → BestOfAll P.pricing P.meaning ask ground.entry.tracks choice → Settles P.pricing P.meaning ask ground.entry.tracks (map S.byte ground.entry.cells.now) limit want.new prices.new steps.new result }
 {
     if !want_bytes(query, choice.shift, want) {
         return None;
@@ -201,8 +201,8 @@ pub(crate) fn settle<S: Symbol, P: Price>(
     steps: &mut [u32],
     entries: &mut [Entry<P>],
 ) -> Option<Choice<P>>
-    requires { Ready byte kind mode ground last.now counts.now query.now (length want.old) (length prices.old) (length steps.old) (length entries.old) }
-    ensures { (ask : Question) → Asked ask (map byte ground.entry.cells.now) ground.entry.tracks kind mode limit (map byte query.now) → Settles pricing meaning ask ground.entry.tracks (map byte ground.entry.cells.now) limit want.new prices.new steps.new result }
+    requires { Ready S.byte S.kind mode ground last.now counts.now query.now (length want.old) (length prices.old) (length steps.old) (length entries.old) }
+    ensures { (ask : Question) → Asked ask (map S.byte ground.entry.cells.now) ground.entry.tracks S.kind mode limit (map S.byte query.now) → Settles P.pricing P.meaning ask ground.entry.tracks (map S.byte ground.entry.cells.now) limit want.new prices.new steps.new result }
 {
     let found = best_of_all(
         ground, last, counts, mode, query, limit, want, prices, steps, entries,

@@ -20,7 +20,7 @@ pub(crate) struct Over<P> {
 
 // The cheapest hand-over from a column, as the window tells it.
 pub(crate) fn hand_over<P: Price>(window: &mut Window<P>, from: u32) -> Option<Over<P>>
-    ensures { (h : History P) → Holds pricing meaning window.old h → from ≤ h.position → Holds pricing meaning window.new (moved h from) × (Bounded pricing meaning (moved h from) → Hands pricing meaning (moved h from) result) }
+    ensures { (h : History P) → Holds P.pricing P.meaning window.old h → from ≤ h.position → Holds P.pricing P.meaning window.new (moved h from) × (Bounded P.pricing P.meaning (moved h from) → Hands P.pricing P.meaning (moved h from) result) }
 {
     let Ok(told) = window.least(from) else {
         return None;
@@ -37,7 +37,7 @@ pub(crate) fn hand_over<P: Price>(window: &mut Window<P>, from: u32) -> Option<O
 
 // The cheaper of going on and being handed over, with the step.
 pub(crate) fn choose<P: Price>(on: Option<P>, over: Option<Over<P>>) -> (Option<P>, u32)
-    ensures { Chosen pricing meaning on over result.0 result.1 }
+    ensures { Chosen P.pricing P.meaning on over result.0 result.1 }
 {
     let Some(a) = on else {
         return match over {

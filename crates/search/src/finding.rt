@@ -26,7 +26,7 @@ pub fn workspace_size<S: Symbol>(
     mode: Mode,
     query: &[S],
 ) -> Result<usize, QueryFault>
-    ensures { (limit : ℕ) → Sized (grid_question kind byte grid.now limit mode query.now) result }
+    ensures { (limit : ℕ) → Sized (grid_question S.kind S.byte grid.now limit mode query.now) result }
 {
     size_checked(grid.symbols(), mode, query)
 }
@@ -42,7 +42,7 @@ fn check_question<S: Symbol>(
     window: usize,
     steps: usize,
 ) -> Result<(), QuestionFault>
-    ensures { MatchResult result (λ _. question_refusal (grid_question kind byte grid.now 0 mode query.now) list prices window steps ≡ None) (λ f. question_refusal (grid_question kind byte grid.now 0 mode query.now) list prices window steps ≡ Some (question_told f)) }
+    ensures { MatchResult result (λ _. question_refusal (grid_question S.kind S.byte grid.now 0 mode query.now) list prices window steps ≡ None) (λ f. question_refusal (grid_question S.kind S.byte grid.now 0 mode query.now) list prices window steps ≡ Some (question_told f)) }
 {
     check_list(query, list)?;
     let size = size_asked(grid.symbols(), mode, query);
@@ -64,7 +64,7 @@ pub fn find<S: Symbol, P: Price>(
     window: &mut [Entry<P>],
     steps: &mut [u32],
 ) -> Result<Answer<P>, QuestionFault>
-    ensures { Sought pricing meaning (grid_question kind byte grid.now limit mode query.now) (question_refusal (grid_question kind byte grid.now limit mode query.now) (length list.old) (length prices.old) (length window.old) (length steps.old)) list.old list.new ((prices.new ≡ prices.old) × (window.new ≡ window.old) × (steps.new ≡ steps.old)) result }
+    ensures { Sought P.pricing P.meaning (grid_question S.kind S.byte grid.now limit mode query.now) (question_refusal (grid_question S.kind S.byte grid.now limit mode query.now) (length list.old) (length prices.old) (length window.old) (length steps.old)) list.old list.new ((prices.new ≡ prices.old) × (window.new ≡ window.old) × (steps.new ≡ steps.old)) result }
 {
     check_question(
         grid,

@@ -53,14 +53,14 @@ pub(crate) fn write_pieces<S: Symbol, P: Price>(
     start: usize,
     list: &mut [Piece],
 ) -> usize
-    requires surveyed { Surveyed byte ground }
-    requires counted { Counted counts.now (map byte ground.cells.now) }
+    requires surveyed { Surveyed S.byte ground }
+    requires counted { Counted counts.now (map S.byte ground.cells.now) }
     requires in_bounds { 1 ≤ length want.now }
     requires want_in_bounds { length want.now ≤ length list.old }
-    requires want_in_bounds_2 { sum_by (λ b. count_by (nat_eq b) (map byte ground.cells.now)) want.now ≤ length steps.now }
-    requires first_value { first ≡ offset_of (map byte ground.cells.now) want.now 0 }
-    requires leading { Leading pricing meaning (map byte ground.cells.now) ground.tracks want.now steps.now start }
-    ensures { (ask : Question) (c : ℤ) (prices : List (Option P)) (a : P) → Trail pricing meaning (map byte ground.entry.cells.now) ground.entry.tracks want.now steps.now start ask c prices a → Written pricing ask c (place_at ground.entry.tracks start) (meaning a) result list.old list.new }
+    requires want_in_bounds_2 { sum_by (λ b. count_by (nat_eq b) (map S.byte ground.cells.now)) want.now ≤ length steps.now }
+    requires first_value { first ≡ offset_of (map S.byte ground.cells.now) want.now 0 }
+    requires leading { Leading P.pricing P.meaning (map S.byte ground.cells.now) ground.tracks want.now steps.now start }
+    ensures { (ask : Question) (c : ℤ) (prices : List (Option P)) (a : P) → Trail P.pricing P.meaning (map S.byte ground.entry.cells.now) ground.entry.tracks want.now steps.now start ask c prices a → Written P.pricing ask c (place_at ground.entry.tracks start) (P.meaning a) result list.old list.new }
 {
     let mut note = 0;
     let mut offset = first;

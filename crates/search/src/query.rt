@@ -10,7 +10,7 @@ use notation::Symbol;
 
 // How many notes there are before the first rest.
 fn sounding_front<S: Symbol>(query: &[S]) -> usize
-    ensures { result ≡ prefix_len sounds (map byte query.now) }
+    ensures { result ≡ prefix_len sounds (map S.byte query.now) }
 {
     for (i, s) in query.iter().enumerate() {
         if s.write() == 255 {
@@ -22,7 +22,7 @@ fn sounding_front<S: Symbol>(query: &[S]) -> usize
 
 // Checks a query: its length, then that each note sounds.
 pub(crate) fn check_query<S: Symbol>(query: &[S]) -> Result<(), QueryFault>
-    ensures { MatchResult result (λ _. query_refusal (map byte query.now) ≡ None) (λ f. query_refusal (map byte query.now) ≡ Some (query_told f)) }
+    ensures { MatchResult result (λ _. query_refusal (map S.byte query.now) ≡ None) (λ f. query_refusal (map S.byte query.now) ≡ Some (query_told f)) }
 {
     if query.len() < 1 || query.len() > 64 {
         return Err(QueryFault::Length { notes: query.len() });
@@ -36,7 +36,7 @@ pub(crate) fn check_query<S: Symbol>(query: &[S]) -> Result<(), QueryFault>
 
 // Checks a query, and then that a list has room for one entry for each note.
 pub(crate) fn check_list<S: Symbol>(query: &[S], room: usize) -> Result<(), ListFault>
-    ensures { MatchResult result (λ _. list_refusal (map byte query.now) room ≡ None) (λ f. list_refusal (map byte query.now) room ≡ Some (list_told f)) }
+    ensures { MatchResult result (λ _. list_refusal (map S.byte query.now) room ≡ None) (λ f. list_refusal (map S.byte query.now) room ≡ Some (list_told f)) }
 {
     check_query(query)?;
     if room < query.len() {

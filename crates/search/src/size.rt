@@ -23,7 +23,7 @@ pub(crate) fn admits(mode: Mode, by: i32) -> bool
 // How often each byte occurs.
 pub(crate) fn histogram<S: Symbol>(cells: &[S]) -> [u32; 256]
     requires { length cells.now ≤ 65536 }
-    ensures { Counted result (map byte cells.now) }
+    ensures { Counted result (map S.byte cells.now) }
 {
     let mut counts = [0u32; 256];
     for s in cells {
@@ -36,7 +36,7 @@ pub(crate) fn histogram<S: Symbol>(cells: &[S]) -> [u32; 256]
 // How many symbols lie at an interval from a note.
 fn matching_places<S: Symbol>(counts: &[u32; 256], note: S, by: i32) -> usize
     ensures small { result < 2 ^ 32 }
-    ensures counted { (cells : List ℕ) → Counted counts.now cells → result ≡ matching kind by cells (byte note) }
+    ensures counted { (cells : List ℕ) → Counted counts.now cells → result ≡ matching S.kind by cells (S.byte note) }
 {
     match note.transposed(by) {
         Some(s) => counts[s.write() as usize] as usize,
@@ -47,7 +47,7 @@ fn matching_places<S: Symbol>(counts: &[u32; 256], note: S, by: i32) -> usize
 // How many triples match under a transposition.
 fn matching_triples<S: Symbol>(counts: &[u32; 256], query: &[S], by: i32) -> usize
     requires { length query.now ≤ 64 }
-    ensures { (cells : List ℕ) → Counted counts.now cells → result ≡ triples kind by cells (map byte query.now) }
+    ensures { (cells : List ℕ) → Counted counts.now cells → result ≡ triples S.kind by cells (map S.byte query.now) }
 {
     let mut sum = 0;
     for s in query {
@@ -60,7 +60,7 @@ fn matching_triples<S: Symbol>(counts: &[u32; 256], query: &[S], by: i32) -> usi
 // score does not hold the byte, and where that is no candidate.
 fn size_to<S: Symbol>(counts: &[u32; 256], mode: Mode, query: &[S], b: u8) -> usize
     requires { (1 ≤ length query.now) × (length query.now ≤ 64) }
-    ensures { (cells : List ℕ) → Counted counts.now cells → result ≡ (if nat_lt 0 (count_by (nat_eq b) cells) then candidate_size kind mode cells (map byte query.now) (kind.interval (note (map byte query.now) 1) b) else 0) }
+    ensures { (cells : List ℕ) → Counted counts.now cells → result ≡ (if nat_lt 0 (count_by (nat_eq b) cells) then candidate_size S.kind mode cells (map S.byte query.now) (S.kind.interval (note (map S.byte query.now) 1) b) else 0) }
 {
     if counts[b as usize] == 0 {
         return 0;
@@ -82,7 +82,7 @@ fn size_to<S: Symbol>(counts: &[u32; 256], mode: Mode, query: &[S], b: u8) -> us
 // The greatest of these numbers.
 fn greatest_size<S: Symbol>(counts: &[u32; 256], mode: Mode, query: &[S]) -> usize
     requires { (1 ≤ length query.now) × (length query.now ≤ 64) }
-    ensures { (cells : List S) → Counted counts.now (map byte cells) → result ≡ workspace kind mode (map byte cells) (map byte query.now) }
+    ensures { (cells : List S) → Counted counts.now (map S.byte cells) → result ≡ workspace S.kind mode (map S.byte cells) (map S.byte query.now) }
 {
     let mut size: usize = 0;
     for b in 0..256usize {
@@ -95,7 +95,7 @@ fn greatest_size<S: Symbol>(counts: &[u32; 256], mode: Mode, query: &[S]) -> usi
 pub(crate) fn size_asked<S: Symbol>(cells: &[S], mode: Mode, query: &[S]) -> usize
     requires cells_len_bound { length cells.now ≤ 65536 }
     requires in_bounds { (1 ≤ length query.now) × (length query.now ≤ 64) }
-    ensures { result ≡ workspace kind mode (map byte cells.now) (map byte query.now) }
+    ensures { result ≡ workspace S.kind mode (map S.byte cells.now) (map S.byte query.now) }
 {
     let counts = histogram(cells);
     greatest_size(&counts, mode, query)
@@ -108,7 +108,7 @@ pub(crate) fn size_checked<S: Symbol>(
     query: &[S],
 ) -> Result<usize, QueryFault>
     requires { length cells.now ≤ 65536 }
-    ensures { MatchResult result (λ n. (query_refusal (map byte query.now) ≡ None) × (n ≡ workspace kind mode (map byte cells.now) (map byte query.now))) (λ f. query_refusal (map byte query.now) ≡ Some (query_told f)) }
+    ensures { MatchResult result (λ n. (query_refusal (map S.byte query.now) ≡ None) × (n ≡ workspace S.kind mode (map S.byte cells.now) (map S.byte query.now))) (λ f. query_refusal (map S.byte query.now) ≡ Some (query_told f)) }
 {
     check_query(query)?;
     Ok(size_asked(cells, mode, query))

@@ -21,8 +21,8 @@ pub(crate) struct Ground<'a, S> {
 // byte below the end.
 pub(crate) fn link_places<S: Symbol>(cells: &[S], previous: &mut [u32]) -> [u32; 256]
     requires { (length cells.now ≤ 65536) × (length cells.now ≤ length previous.old) }
-    ensures linked { Linked (map byte cells.now) previous.new (length cells.now) }
-    ensures marks { Marks (map byte cells.now) result (length cells.now) }
+    ensures linked { Linked (map S.byte cells.now) previous.new (length cells.now) }
+    ensures marks { Marks (map S.byte cells.now) result (length cells.now) }
 {
     let mut last = [0u32; 256];
     for (p, s) in cells.iter().enumerate() {
@@ -37,8 +37,8 @@ pub(crate) fn link_places<S: Symbol>(cells: &[S], previous: &mut [u32]) -> [u32;
 // occurs.
 pub(crate) fn count_later<S: Symbol>(cells: &[S], after: &mut [u16]) -> [u32; 256]
     requires { (length cells.now ≤ 65536) × (length cells.now ≤ length after.old) }
-    ensures ranked { Ranked (map byte cells.now) after.new 0 }
-    ensures counted { Counted result (map byte cells.now) }
+    ensures ranked { Ranked (map S.byte cells.now) after.new 0 }
+    ensures counted { Counted result (map S.byte cells.now) }
 {
     let mut counts = [0u32; 256];
     let mut p = cells.len();

@@ -23,7 +23,7 @@ pub(crate) struct Best<P> {
 
 // The better of the best so far and an earlier place, which wins where they cost the same.
 fn better<P: Price>(best: Option<Best<P>>, price: Option<P>, place: usize) -> Option<Best<P>>
-    ensures { (row : ℕ → Option P) → Shallow pricing meaning row → row place ≡ price → Topmost pricing meaning row best (place + 1) → Topmost pricing meaning row result place }
+    ensures { (row : ℕ → Option P) → Shallow P.pricing P.meaning row → row place ≡ price → Topmost P.pricing P.meaning row best (place + 1) → Topmost P.pricing P.meaning row result place }
 {
     let Some(here) = price else {
         return best;
@@ -44,10 +44,10 @@ pub(crate) fn best_of<S: Symbol, P: Price>(
     row: Row,
     prices: &[Option<P>],
 ) -> Option<Best<P>>
-    requires surveyed { Surveyed byte ground }
-    requires cells_in_bounds { row.offset + count_by (nat_eq row.byte) (map byte ground.cells.now) ≤ length prices.now }
-    requires mark { Mark (map byte ground.cells.now) row.byte (length (map byte ground.cells.now)) row.start }
-    ensures { Shallow pricing meaning (value (map byte ground.entry.cells.now) row.byte row.offset prices.now) → Topmost pricing meaning (value (map byte ground.entry.cells.now) row.byte row.offset prices.now) result 0 }
+    requires surveyed { Surveyed S.byte ground }
+    requires cells_in_bounds { row.offset + count_by (nat_eq row.byte) (map S.byte ground.cells.now) ≤ length prices.now }
+    requires mark { Mark (map S.byte ground.cells.now) row.byte (length (map S.byte ground.cells.now)) row.start }
+    ensures { Shallow P.pricing P.meaning (value (map S.byte ground.entry.cells.now) row.byte row.offset prices.now) → Topmost P.pricing P.meaning (value (map S.byte ground.entry.cells.now) row.byte row.offset prices.now) result 0 }
 {
     let mut best = None;
     let mut mark = row.start;
@@ -71,15 +71,15 @@ pub(crate) fn best_under<S: Symbol, P: Price>(
     steps: &mut [u32],
     entries: &mut [Entry<P>],
 ) -> Option<Best<P>>
-    requires surveyed { Surveyed byte ground }
-    requires marks { Marks (map byte ground.cells.now) last.now (length (map byte ground.cells.now)) }
-    requires counted { Counted counts.now (map byte ground.cells.now) }
+    requires surveyed { Surveyed S.byte ground }
+    requires marks { Marks (map S.byte ground.cells.now) last.now (length (map S.byte ground.cells.now)) }
+    requires counted { Counted counts.now (map S.byte ground.cells.now) }
     requires in_bounds { 1 ≤ length want.now }
-    requires want_in_bounds { sum_by (λ b. count_by (nat_eq b) (map byte ground.cells.now)) want.now ≤ length prices.old }
-    requires want_in_bounds_2 { sum_by (λ b. count_by (nat_eq b) (map byte ground.cells.now)) want.now ≤ length steps.old }
-    requires want_in_bounds_3 { sum_by (λ b. count_by (nat_eq b) (map byte ground.cells.now)) want.now ≤ length entries.old }
-    ensures rows { RowsRight pricing meaning (map byte ground.entry.cells.now) ground.entry.tracks limit want.now prices.new steps.new 0 }
-    ensures best { (ask : Question) (c : ℤ) → Posed ask (map byte ground.entry.cells.now) ground.entry.tracks → ask.limit ≡ limit → Wanted ask c want.now → BestUnder pricing meaning ask c ground.entry.tracks result }
+    requires want_in_bounds { sum_by (λ b. count_by (nat_eq b) (map S.byte ground.cells.now)) want.now ≤ length prices.old }
+    requires want_in_bounds_2 { sum_by (λ b. count_by (nat_eq b) (map S.byte ground.cells.now)) want.now ≤ length steps.old }
+    requires want_in_bounds_3 { sum_by (λ b. count_by (nat_eq b) (map S.byte ground.cells.now)) want.now ≤ length entries.old }
+    ensures rows { RowsRight P.pricing P.meaning (map S.byte ground.entry.cells.now) ground.entry.tracks limit want.now prices.new steps.new 0 }
+    ensures best { (ask : Question) (c : ℤ) → Posed ask (map S.byte ground.entry.cells.now) ground.entry.tracks → ask.limit ≡ limit → Wanted ask c want.now → BestUnder P.pricing P.meaning ask c ground.entry.tracks result }
 {
     let row = fill_rows(ground, last, counts, want, limit, prices, steps, entries);
     best_of(ground, row, prices)

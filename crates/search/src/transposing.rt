@@ -13,7 +13,7 @@ use notation::Symbol;
 
 // Whether there is a symbol at an interval from another.
 fn has_transposed<S: Symbol>(s: S, by: i32) -> bool
-    ensures { result ≡ reaches kind by (byte s) }
+    ensures { result ≡ reaches S.kind by (S.byte s) }
 {
     match s.transposed(by) {
         Some(_) => true,
@@ -23,7 +23,7 @@ fn has_transposed<S: Symbol>(s: S, by: i32) -> bool
 
 // How many notes there are before the first that has no transposed one.
 fn transposable_front<S: Symbol>(query: &[S], by: i32) -> usize
-    ensures { result ≡ prefix_len (reaches kind by) (map byte query.now) }
+    ensures { result ≡ prefix_len (reaches S.kind by) (map S.byte query.now) }
 {
     for (i, s) in query.iter().enumerate() {
         if !has_transposed(*s, by) {
@@ -36,8 +36,8 @@ fn transposable_front<S: Symbol>(query: &[S], by: i32) -> usize
 // Writes the transposed notes, of which there is one for each, into the front of a list.
 fn put_transposed<S: Symbol>(query: &[S], by: i32, out: &mut [S])
     requires query_in_bounds { length query.now ≤ length out.old }
-    requires query_in_bounds_2 { length query.now ≤ prefix_len (reaches kind by) (map byte query.now) }
-    ensures moved { Transposed kind by (map byte query.now) (map byte (take (length query.now) out.new)) }
+    requires query_in_bounds_2 { length query.now ≤ prefix_len (reaches S.kind by) (map S.byte query.now) }
+    ensures moved { Transposed S.kind by (map S.byte query.now) (map S.byte (take (length query.now) out.new)) }
     ensures behind { drop (length query.now) out.new ≡ drop (length query.now) out.old }
 {
     for (i, s) in query.iter().enumerate() {
@@ -50,7 +50,7 @@ fn put_transposed<S: Symbol>(query: &[S], by: i32, out: &mut [S])
 /// Transposes a query by an interval into the front of a second list. What lies behind is as it
 /// was, and so is the whole list where the call is refused.
 pub fn transposed<S: Symbol>(query: &[S], by: i32, out: &mut [S]) -> Result<(), TransposeFault>
-    ensures { MatchResult result (λ _. (transpose_refusal kind by (map byte query.now) (length out.old) ≡ None) × Transposed kind by (map byte query.now) (map byte (take (length query.now) out.new)) × (drop (length query.now) out.new ≡ drop (length query.now) out.old)) (λ f. (transpose_refusal kind by (map byte query.now) (length out.old) ≡ Some (transpose_told f)) × (out.new ≡ out.old)) }
+    ensures { MatchResult result (λ _. (transpose_refusal S.kind by (map S.byte query.now) (length out.old) ≡ None) × Transposed S.kind by (map S.byte query.now) (map S.byte (take (length query.now) out.new)) × (drop (length query.now) out.new ≡ drop (length query.now) out.old)) (λ f. (transpose_refusal S.kind by (map S.byte query.now) (length out.old) ≡ Some (transpose_told f)) × (out.new ≡ out.old)) }
 {
     check_list(query, out.len())?;
     let front = transposable_front(query, by);

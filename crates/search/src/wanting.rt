@@ -9,8 +9,8 @@ use notation::Symbol;
 // and tells whether every note has one. A note matches exactly where its byte stands.
 pub(crate) fn want_bytes<S: Symbol>(query: &[S], by: i32, want: &mut [u8]) -> bool
     requires { length query.now ≤ length want.old }
-    ensures each { result ≡ true → (k : ℕ) → k < length query.now → kind.interval (slice_index_or (map byte query.now) k rest) (slice_index want.new k) ≡ Some by }
-    ensures lacking { result ≡ false → (k : ℕ) × (k < length query.now) × ((b : ℕ) → kind.interval (slice_index_or (map byte query.now) k rest) b ≢ Some by) }
+    ensures each { result ≡ true → (k : ℕ) → k < length query.now → S.kind.interval (slice_index_or (map S.byte query.now) k rest) (slice_index want.new k) ≡ Some by }
+    ensures lacking { result ≡ false → (k : ℕ) × (k < length query.now) × ((b : ℕ) → S.kind.interval (slice_index_or (map S.byte query.now) k rest) b ≢ Some by) }
 {
     for (k, s) in query.iter().enumerate() {
         let Some(moved) = s.transposed(by) else {

@@ -38,7 +38,7 @@ struct Fields {
 impl<'a, S: Symbol> Slip<'a, S> {
     /// Reads a slip. All of it is checked before anything is told.
     pub fn read(input: &'a [u8]) -> Result<Slip<'a, S>, SlipFault>
-        ensures { SlipReading kind input.now result }
+        ensures { SlipReading S.kind input.now result }
     {
         match check_slip::<S>(input) {
             Ok(fields) => Ok(Slip {
@@ -53,33 +53,33 @@ impl<'a, S: Symbol> Slip<'a, S> {
     }
 
     pub fn limit(&self) -> u16
-        ensures { (q : Inquiry) → Asks kind self.now q → result ≡ q.limit }
+        ensures { (q : Inquiry) → Asks S.kind self.now q → result ≡ q.limit }
     {
         self.limit
     }
 
     pub fn mode(&self) -> Mode
-        ensures { (q : Inquiry) → Asks kind self.now q → mode_number result ≡ q.mode }
+        ensures { (q : Inquiry) → Asks S.kind self.now q → mode_number result ≡ q.mode }
     {
         self.mode
     }
 
     pub fn price(&self) -> PriceKind
-        ensures { (q : Inquiry) → Asks kind self.now q → price_number result ≡ q.price }
+        ensures { (q : Inquiry) → Asks S.kind self.now q → price_number result ≡ q.price }
     {
         self.price
     }
 
     /// The number of notes in the query.
     pub fn notes(&self) -> usize
-        ensures { (q : Inquiry) → Asks kind self.now q → result ≡ length q.query }
+        ensures { (q : Inquiry) → Asks S.kind self.now q → result ≡ length q.query }
     {
         self.query.len()
     }
 
     /// A note of the query, counted from 1; absent where there is no such note.
     pub fn note(&self, n: usize) -> Option<S>
-        ensures { (q : Inquiry) → Asks kind self.now q → NoteTold byte q n result }
+        ensures { (q : Inquiry) → Asks S.kind self.now q → NoteTold S.byte q n result }
     {
         match self.note_byte(n) {
             Some(b) => S::read(b),
@@ -101,7 +101,7 @@ impl<'a, S: Symbol> Slip<'a, S> {
 
 /// Checks a whole slip, and tells its fields.
 fn check_slip<S: Symbol>(input: &[u8]) -> Result<Fields, SlipFault>
-    ensures { Checked kind input.now result }
+    ensures { Checked S.kind input.now result }
 {
     let bytes = input.len();
     let Some(block) = input.first_chunk::<512>() else {
@@ -115,7 +115,7 @@ fn check_slip<S: Symbol>(input: &[u8]) -> Result<Fields, SlipFault>
 
 /// Checks a block as a slip, and tells its fields.
 fn check_fields<S: Symbol>(block: &[u8; 512]) -> Result<Fields, SlipFault>
-    ensures { Checked kind block.now result }
+    ensures { Checked S.kind block.now result }
 {
     let Letter::Slip = check_block(0, block)? else {
         return Err(SlipFault::OutOfTurn);

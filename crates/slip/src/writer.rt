@@ -18,7 +18,7 @@ pub fn write_slip<S: Symbol>(
     query: &[S],
     out: &mut [u8],
 ) -> Result<usize, SlipWriteFault>
-    ensures { SlipWritten kind (posed byte limit mode price query.now) out.old out.new result }
+    ensures { SlipWritten S.kind (posed S.byte limit mode price query.now) out.old out.new result }
 {
     if !is_in_range(limit, mode, price, query.len()) {
         return Err(SlipWriteFault::OutOfRange);

@@ -58,9 +58,9 @@ pub fn laws_of_gaps() -> u8
 /// Splittings piece by piece and note by note are one thing with one price. Appended columns, a
 /// raised limit and a transposed query keep them, and the laws of prices apply to them.
 pub fn laws_of_splittings<P: Price>() -> u8
-    ensures views { TwoViews pricing }
-    ensures kept { SplittingsKept pricing }
-    ensures bounded { SplittingsBounded pricing }
+    ensures views { TwoViews P.pricing }
+    ensures kept { SplittingsKept P.pricing }
+    ensures bounded { SplittingsBounded P.pricing }
 {
     0
 }
@@ -69,9 +69,9 @@ pub fn laws_of_splittings<P: Price>() -> u8
 /// raising the limit never loses what was found nor makes it dearer, and a transposed query is found
 /// at the same price and place.
 pub fn laws_of_answers<P: Price>() -> u8
-    ensures unique { AnswersUnique pricing }
-    ensures harmless { GrowthHarmless pricing }
-    ensures alike { TransposedAlike pricing }
+    ensures unique { AnswersUnique P.pricing }
+    ensures harmless { GrowthHarmless P.pricing }
+    ensures alike { TransposedAlike P.pricing }
 {
     0
 }
@@ -80,9 +80,9 @@ pub fn laws_of_answers<P: Price>() -> u8
 /// dearer than another stays so as the hand-over comes from farther away; and the answer from the
 /// rests of the first note.
 pub fn least_rest<P: Price>() -> u8
-    ensures step { LeastRests pricing }
-    ensures farther { Farther pricing }
-    ensures answer { AnswersFromRests pricing }
+    ensures step { LeastRests P.pricing }
+    ensures farther { Farther P.pricing }
+    ensures answer { AnswersFromRests P.pricing }
 {
     0
 }

@@ -4,8 +4,8 @@ use Rattle.book.specs.Blocks.{weighted}
 use Rattle.book.proofs.Sums.{weighted_more}
 use Rattle.book.proofs.block.check.Goals as goal
 
-pub overflow-add-sum : goal.overflow-add-sum
-overflow-add-sum c =
+pub overflow_add-sum : goal.overflow_add-sum
+overflow_add-sum c =
     let i = c.loop-i.i in
     let b = get_or c.args.bytes.now i 0 in
     omega (arith, mul-le (i + 1) b 508 255 (omega arith) (omega arith))

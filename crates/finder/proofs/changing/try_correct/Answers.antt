@@ -12,4 +12,4 @@ pub returns : goal.returns
 returns g c =
     let s = c.args.score.now in
     let byte = g.S.Symbol.byte in
-    λ terms tried. edited g.S.Symbol.kind byte (prices_of g.P.Price.pricing g.P.Price.meaning g.R.Price.pricing g.R.Price.meaning) s c.correct.new.self terms tried (corrects c.args.column c.args.track (byte c.args.symbol)) (correct_refusal s.tracks s.columns c.args.column c.args.track) (corrected (columns_held byte s) c.args.column c.args.track (byte c.args.symbol)) c.correct.result c.settle-change.result refl (λ j. correct_refusal s.tracks (length_columns s.tracks s.columns (map byte (vec_items s.memory)) j) c.args.column c.args.track) refl (λ e. e) c.correct.ensures c.settle-change.ensures
+    λ terms tried. edited g.S.Symbol.kind byte (prices_of g.P.Price.pricing g.P.Price.meaning g.R.Price.pricing g.R.Price.meaning) s c.correct.new.self terms tried (corrects c.args.column c.args.track (byte c.args.symbol)) (correct_refusal s.tracks s.columns c.args.column c.args.track) (corrected (columns_held byte s) c.args.column c.args.track (byte c.args.symbol)) c.correct.result c.settle_change.result refl (λ j. correct_refusal s.tracks (length_columns s.tracks s.columns (map byte (vec_items s.memory)) j) c.args.column c.args.track) refl (λ e. e) c.correct.ensures c.settle_change.ensures

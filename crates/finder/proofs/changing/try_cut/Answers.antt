@@ -12,4 +12,4 @@ pub returns : goal.returns
 returns g c =
     let s = c.args.score.now in
     let byte = g.S.Symbol.byte in
-    λ terms tried. edited g.S.Symbol.kind byte (prices_of g.P.Price.pricing g.P.Price.meaning g.R.Price.pricing g.R.Price.meaning) s c.cut.new.self terms tried (cuts c.args.columns) (cut_refusal s.columns c.args.columns) (first_columns (columns_held byte s) c.args.columns) c.cut.result c.settle-change.result refl (λ j. cut_refusal (length_columns s.tracks s.columns (map byte (vec_items s.memory)) j) c.args.columns) refl (λ e. e) c.cut.ensures c.settle-change.ensures
+    λ terms tried. edited g.S.Symbol.kind byte (prices_of g.P.Price.pricing g.P.Price.meaning g.R.Price.pricing g.R.Price.meaning) s c.cut.new.self terms tried (cuts c.args.columns) (cut_refusal s.columns c.args.columns) (first_columns (columns_held byte s) c.args.columns) c.cut.result c.settle_change.result refl (λ j. cut_refusal (length_columns s.tracks s.columns (map byte (vec_items s.memory)) j) c.args.columns) refl (λ e. e) c.cut.ensures c.settle_change.ensures

@@ -10,5 +10,5 @@ returns g c =
     let cells = c.args.memory.now in
     let n = length symbols in
     let e : n ≡ at + n - at = omega arith in
-    put_mid-paste at (at + n - at) cells c.copy-from-slice.new.self symbols n c.copy-from-slice.ensures.after e (omega arith)
+    put_mid-paste at (at + n - at) cells c.copy_from_slice.new.self symbols n c.copy_from_slice.ensures.after e (omega arith)
     ∙ paste_all cells at symbols n (omega arith)

@@ -2,7 +2,7 @@ use Rattle.std.proofs.Common.{◌+◌, ◌*◌, ◌/◌, ◌%◌, ◌<◌, ◌�
 use Rattle.book.specs.Reading.{Told}
 use Rattle.finder.proofs.Filled.{symbol_copied, symbol_missing, symbols_copied}
 use Rattle.finder.proofs.filling.copy_symbols.Goals as goal
-use Rattle.finder.proofs.filling.copy_symbols.Goals.{in-Some, in-default}
+use Rattle.finder.proofs.filling.copy_symbols.Goals.{in-Some, in_default}
 
 pub loop-i-preserved : goal.loop-i-preserved
 loop-i-preserved g c = λ h holds e f.
@@ -16,8 +16,8 @@ loop-i-preserved g c = λ h holds e f.
       | in-Some w ↦
           let told : Told byte h (i / h.tracks + 1) (i % h.tracks + 1) (Some w.in-Some.symbol) = subst (λ t. Told byte h (i / t + 1) (i % t + 1) (Some w.in-Some.symbol)) (sym e) (w.in-Some.ensures h holds) in
           ap (map byte) w.memory-is ∙ symbol_copied byte h whole first c.loop-i.memory i holds.score.shaped.some_track l fits w.in-Some.symbol told.1 (c.loop-i.invariant h holds e f)
-      | in-default w ↦
-          let told : Told byte h (i / h.tracks + 1) (i % h.tracks + 1) None = subst (λ t. Told byte h (i / t + 1) (i % t + 1) None) (sym e) (w.in-default.ensures h holds) in
+      | in_default w ↦
+          let told : Told byte h (i / h.tracks + 1) (i % h.tracks + 1) None = subst (λ t. Told byte h (i / t + 1) (i % t + 1) None) (sym e) (w.in_default.ensures h holds) in
           absurd (symbol_missing byte h whole first c.loop-i.memory i holds.score.shaped.some_track l fits told)
     ]
 

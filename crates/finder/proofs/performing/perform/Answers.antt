@@ -13,11 +13,11 @@ loop-call-init g c =
     let byte = g.S.Symbol.byte in
     run_none g.S.Symbol.kind byte (prices_of g.P.Price.pricing g.P.Price.meaning g.R.Price.pricing g.R.Price.meaning) (ledger_of byte c.new-score.result c.new-terms.result (vec_items c.new-tried.result)) (map (command byte) c.args.calls.now) (vec_items c.new-outcomes.result) c.new-outcomes.ensures.items (columns_few byte c.new-score.result)
 
-pub returns-in-err-outcome : goal.returns-in-err-outcome
-returns-in-err-outcome g c = let p = err_from_is_err_and c.from-residual.result c.from-residual.ensures.1 in rw p.1 tt
+pub returns-in_err-outcome : goal.returns-in_err-outcome
+returns-in_err-outcome g c = let p = err_from_is_err_and c.from_residual.result c.from_residual.ensures.1 in rw p.1 tt
 
-pub returns-in-err-push : goal.returns-in-err-push
-returns-in-err-push g c = let p = err_from_is_err_and c.from-residual-in-err-push.result c.from-residual-in-err-push.ensures.1 in rw p.1 tt
+pub returns-in_err-push : goal.returns-in_err-push
+returns-in_err-push g c = let p = err_from_is_err_and c.from_residual-in_err-push.result c.from_residual-in_err-push.ensures.1 in rw p.1 tt
 
 pub loop-call-preserved : goal.loop-call-preserved
 loop-call-preserved g c =
@@ -29,14 +29,14 @@ loop-call-preserved g c =
     let item = c.call-item.result in
     let start = ledger_of byte c.new-score.result c.new-terms.result (vec_items c.new-tried.result) in
     let met = ledger_of byte c.loop-call.score c.loop-call.terms (vec_items c.loop-call.tried) in
-    let left = ledger_of byte c.perform-call.new.score c.perform-call.new.terms (vec_items c.perform-call.new.tried) in
+    let left = ledger_of byte c.perform_call.new.score c.perform_call.new.terms (vec_items c.perform_call.new.tried) in
     let inside : i < length calls = omega (arith, c.loop-call-test.true) in
-    let outcome = c.in-ok-outcome.outcome in
+    let outcome = c.in_ok-outcome.outcome in
     let called : get_or (map (command byte) calls) i ends ≡ command byte item = get_or-map (command byte) calls i item ends inside ∙ ap (command byte) (sym c.call-item.is) in
     run_more k byte prices start (map (command byte) calls) i met left (vec_items c.loop-call.outcomes) (vec_items c.push.new.self) outcome (omega (arith, length-map calls (command byte))) c.loop-call.invariant
-    (tried_as k byte prices met left (get_or (map (command byte) calls) i ends) (command byte item) outcome called c.in-ok-outcome.ensures)
-    c.in-ok-push.ensures.items
-    (columns_few byte c.perform-call.new.score)
+    (tried_as k byte prices met left (get_or (map (command byte) calls) i ends) (command byte item) outcome called c.in_ok-outcome.ensures)
+    c.in_ok-push.ensures.items
+    (columns_few byte c.perform_call.new.score)
 
 pub returns : goal.returns
 returns g c =
@@ -53,5 +53,5 @@ returns g c =
     let start = made_first byte c.args.tracks memory score terms tried c.new-score.ensures.shape c.new-score.ensures.empty c.new-terms.ensures.0 c.new-terms.ensures.1 c.new-tried.ensures.items in
     let run = subst (λ (l : Ledger). RunTo k byte prices l (map (command byte) calls) i now-held (vec_items c.loop-call.outcomes)) start c.loop-call.invariant in
     let all : i ≡ length (map (command byte) calls) = omega (arith, length-map calls (command byte), c.loop-call-test.false, c.loop-call.auto.call-index-end) in
-    let checked : c.memory-checked-checked.result ≡ memory_refusal c.args.tracks memory = c.memory-checked-checked.ensures ∙ ap (memory_refusal c.args.tracks) c.len.ensures in
-    run_all k g.met.S.Symbol.lawful byte prices g.met.P.Price.lawful g.met.R.Price.lawful c.args.tracks memory (map (command byte) calls) now-held (record { memory = c.memory-checked-checked.result; outcomes = c.loop-call.outcomes }) i all checked run
+    let checked : c.memory_checked-checked.result ≡ memory_refusal c.args.tracks memory = c.memory_checked-checked.ensures ∙ ap (memory_refusal c.args.tracks) c.len.ensures in
+    run_all k g.met.S.Symbol.lawful byte prices g.met.P.Price.lawful g.met.R.Price.lawful c.args.tracks memory (map (command byte) calls) now-held (record { memory = c.memory_checked-checked.result; outcomes = c.loop-call.outcomes }) i all checked run

@@ -4,7 +4,7 @@ use Rattle.finder.proofs.questioning.repeated.Goals as goal
 
 pub loop-x-preserved : goal.loop-x-preserved
 loop-x-preserved g c =
-    let pushed = c.in-ok-push.ensures in
+    let pushed = c.in_ok-push.ensures in
     let n = vec_len c.loop-x.copies in (
       pushed.items ∙ ap (λ xs. xs ++ (c.args.x ∷ [])) c.loop-x.invariant.0 ∙ replicate_more n c.args.x ∙ sym (ap (λ i. replicate i c.args.x) pushed.len),
       omega (arith, pushed.len, c.loop-x-test.true, c.len.ensures),

@@ -5,8 +5,8 @@ use Rattle.price.proofs.Spots.{read_is}
 use Rattle.price.proofs.Comparing.{judged_same}
 use Rattle.price.proofs.span.place_of.Goals as goal
 
-pub returns-then-not-no-dearer : goal.returns-then-not-no-dearer
-returns-then-not-no-dearer g c =
+pub returns-then-not-no_dearer : goal.returns-then-not-no_dearer
+returns-then-not-no_dearer g c =
     record {
       high = c.loop-place.invariant.0;
       low = c.loop-place.invariant.1;
@@ -15,7 +15,7 @@ returns-then-not-no-dearer g c =
           λ d l n.
           judged_same g.P.Price.pricing g.P.Price.meaning c.args.from {e = c.args.near} refl
           (read_is c.args.entries.now (c.loop-place.place - 1) _ d (omega arith) c.index-entries-place.is n)
-          c.if-not-no-dearer.true
+          c.if-not-no_dearer.true
           c.no_dearer.ensures;
     }
 

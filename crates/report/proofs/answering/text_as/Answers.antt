@@ -23,6 +23,6 @@ returns-in-Err g c =
     let slip = c.args.slip.now in
     let book = c.args.book.now in
     let t = c.args.tracks in
-    IfOk-weaker c.turned-away.result _ _
+    IfOk-weaker c.turned_away.result _ _
     (λ s h. slip_refused k t book slip (string_bytes s) _ (c.in-Err.ensures.by_rules ∙ ap Some (sym c.refusal.ensures)) h)
-    c.turned-away.ensures
+    c.turned_away.ensures

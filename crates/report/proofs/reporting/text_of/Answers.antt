@@ -12,22 +12,22 @@ cut_book xs = let same : length xs - 512 ≡ length xs - 512 - 0 = omega arith i
 pub returns-in-2 : goal.returns-in-2
 returns-in-2 c =
     let input = c.args.input.now in
-    IfOk-weaker c.text-as.result _ _
-    (λ s h. by_parts input (string_bytes s) pitch_class _ _ _ (sym c.is-whole.ensures ∙ c.if-not-is-whole.false) (ap (λ (b : ℕ). cond (eqb b 2) pitch_class (cond (eqb b 3) stroke pitch)) c.in-2.is) (sym c.lawful-tracks-tracks.ensures) (cut_book input) (sym (take_rest input (length input - 512))) h)
-    c.text-as.ensures
+    IfOk-weaker c.text_as.result _ _
+    (λ s h. by_parts input (string_bytes s) pitch_class _ _ _ (sym c.is_whole.ensures ∙ c.if-not-is_whole.false) (ap (λ (b : ℕ). cond (eqb b 2) pitch_class (cond (eqb b 3) stroke pitch)) c.in-2.is) (sym c.lawful_tracks-tracks.ensures) (cut_book input) (sym (take_rest input (length input - 512))) h)
+    c.text_as.ensures
 
 pub returns-in-3 : goal.returns-in-3
 returns-in-3 c =
     let input = c.args.input.now in
-    IfOk-weaker c.text-as-in-3.result _ _
-    (λ s h. by_parts input (string_bytes s) stroke _ _ _ (sym c.is-whole.ensures ∙ c.if-not-is-whole.false) (ap (λ (b : ℕ). cond (eqb b 2) pitch_class (cond (eqb b 3) stroke pitch)) c.in-3.is) (sym c.lawful-tracks-tracks.ensures) (cut_book input) (sym (take_rest input (length input - 512))) h)
-    c.text-as-in-3.ensures
+    IfOk-weaker c.text_as-in-3.result _ _
+    (λ s h. by_parts input (string_bytes s) stroke _ _ _ (sym c.is_whole.ensures ∙ c.if-not-is_whole.false) (ap (λ (b : ℕ). cond (eqb b 2) pitch_class (cond (eqb b 3) stroke pitch)) c.in-3.is) (sym c.lawful_tracks-tracks.ensures) (cut_book input) (sym (take_rest input (length input - 512))) h)
+    c.text_as-in-3.ensures
 
-pub returns-in-default : goal.returns-in-default
-returns-in-default c =
+pub returns-in_default : goal.returns-in_default
+returns-in_default c =
     let input = c.args.input.now in
     let two = ne_eqb (get_or input 1 0) 2 (λ e. omega arith) in
     let three = ne_eqb (get_or input 1 0) 3 (λ e. omega arith) in
-    IfOk-weaker c.text-as-in-default.result _ _
-    (λ s h. by_parts input (string_bytes s) pitch _ _ _ (sym c.is-whole.ensures ∙ c.if-not-is-whole.false) (ap (λ (x : Bool). cond x pitch_class (cond (eqb (get_or input 1 0) 3) stroke pitch)) two ∙ ap (λ (x : Bool). cond x stroke pitch) three) (sym c.lawful-tracks-tracks.ensures) (cut_book input) (sym (take_rest input (length input - 512))) h)
-    c.text-as-in-default.ensures
+    IfOk-weaker c.text_as-in_default.result _ _
+    (λ s h. by_parts input (string_bytes s) pitch _ _ _ (sym c.is_whole.ensures ∙ c.if-not-is_whole.false) (ap (λ (x : Bool). cond x pitch_class (cond (eqb (get_or input 1 0) 3) stroke pitch)) two ∙ ap (λ (x : Bool). cond x stroke pitch) three) (sym c.lawful_tracks-tracks.ensures) (cut_book input) (sym (take_rest input (length input - 512))) h)
+    c.text_as-in_default.ensures

@@ -4,4 +4,4 @@ use Rattle.report.proofs.wording.gap_between.Goals as goal
 
 pub returns : goal.returns
 unfolding gap
-returns c = record { is = λ score. omega (arith, c.saturating-sub.ensures, c.last-of-end.ensures); small = omega (arith, c.saturating-sub.ensures) }
+returns c = record { is = λ score. omega (arith, c.saturating_sub.ensures, c.last_of-end.ensures); small = omega (arith, c.saturating_sub.ensures) }

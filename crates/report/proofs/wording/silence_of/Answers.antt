@@ -14,12 +14,12 @@ loop-i-preserved c =
     let j = c.loop-i.i - 1 - 1 in
     let next : j + 1 ≡ c.loop-i.i - 1 = omega arith in
     let inside : j + 1 < length pieces = omega (arith, c.loop-i.invariant.2, c.loop-i-test.true) in
-    let told : (score : Score) → c.loop-i.sum + c.gap-between-sum.result ≡ silence score (drop j pieces) = λ score.
+    let told : (score : Score) → c.loop-i.sum + c.gap_between-sum.result ≡ silence score (drop j pieces) = λ score.
     let more = silent_more score pieces j blank inside in
-    let here : c.gap-between-sum.result ≡ gap score (last (get_or pieces j blank)) (get_or pieces (j + 1) blank).column = c.gap-between-sum.ensures.is score ∙ ap (λ (i : ℕ). gap score (last (get_or pieces j blank)) (get_or pieces i blank).column) (sym next) in
+    let here : c.gap_between-sum.result ≡ gap score (last (get_or pieces j blank)) (get_or pieces (j + 1) blank).column = c.gap_between-sum.ensures.is score ∙ ap (λ (i : ℕ). gap score (last (get_or pieces j blank)) (get_or pieces i blank).column) (sym next) in
     let left : c.loop-i.sum ≡ silence score (drop (j + 1) pieces) = c.loop-i.invariant.0 score ∙ ap (λ (i : ℕ). silence score (drop i pieces)) (sym next) in
     omega (arith, more, here, left) in
-    (told, omega (arith, c.loop-i.invariant.1, c.loop-i.invariant.2, c.loop-i-test.true, c.gap-between-sum.ensures.small), omega (arith, c.loop-i.invariant.2))
+    (told, omega (arith, c.loop-i.invariant.1, c.loop-i.invariant.2, c.loop-i-test.true, c.gap_between-sum.ensures.small), omega (arith, c.loop-i.invariant.2))
 
 pub returns : goal.returns
 returns c =

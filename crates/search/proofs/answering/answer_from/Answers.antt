@@ -5,11 +5,11 @@ use Rattle.splitting.specs.Answer.{Right}
 use Rattle.search.proofs.Telling.{none_told, settled_trail, settled_room, settled_place, found_told}
 use Rattle.search.proofs.answering.answer_from.Goals as goal
 
-pub returns-in-default : goal.returns-in-default
-returns-in-default g c = λ ask asked. (none_told (map g.S.Symbol.byte c.args.ground.cells.now) (map g.S.Symbol.byte c.args.query.now) g.S.Symbol.kind c.args.mode c.args.limit c.args.ground.tracks g.P.Price.pricing g.met.P.Price.lawful g.P.Price.meaning ask asked (c.in-default.ensures ask asked), refl)
+pub returns-in_default : goal.returns-in_default
+returns-in_default g c = λ ask asked. (none_told (map g.S.Symbol.byte c.args.ground.cells.now) (map g.S.Symbol.byte c.args.query.now) g.S.Symbol.kind c.args.mode c.args.limit c.args.ground.tracks g.P.Price.pricing g.met.P.Price.lawful g.P.Price.meaning ask asked (c.in_default.ensures ask asked), refl)
 
-pub write-pieces-count-requires : goal.write-pieces-count-requires
-write-pieces-count-requires g c =
+pub write_pieces-count-requires : goal.write_pieces-count-requires
+write_pieces-count-requires g c =
     let bytes = map g.S.Symbol.byte c.args.ground.cells.now in
     let query = map g.S.Symbol.byte c.args.query.now in
     let ready = c.requires.1 in
@@ -22,10 +22,10 @@ write-pieces-count-requires g c =
     let trail = settled_trail bytes query g.S.Symbol.kind c.args.mode c.args.limit c.args.ground.tracks g.P.Price.pricing g.met.P.Price.lawful g.P.Price.meaning granted.ask granted.asked want prices steps o settled in
     let room = settled_room bytes query g.S.Symbol.kind c.args.mode c.args.limit c.args.ground.tracks g.P.Price.pricing g.met.P.Price.lawful g.P.Price.meaning granted.ask granted.asked want prices steps o settled granted.some_track g.met.S.Symbol.lawful granted.some_note c.args.counts.now ready.counted in
     let n = length-map c.args.query.now g.S.Symbol.byte in
-    (ready.surveyed, ready.counted, omega (arith, c.settle-found.auto.want, ready.as_long, ready.some), omega (arith, c.settle-found.auto.want, ready.as_long, granted.room_list), omega (arith, c.settle-found.auto.steps, ready.room_steps, room), c.first-offset-offset.ensures bytes ready.counted, (granted.ask, o.shift, prices, o.price, trail))
+    (ready.surveyed, ready.counted, omega (arith, c.settle-found.auto.want, ready.as_long, ready.some), omega (arith, c.settle-found.auto.want, ready.as_long, granted.room_list), omega (arith, c.settle-found.auto.steps, ready.room_steps, room), c.first_offset-offset.ensures bytes ready.counted, (granted.ask, o.shift, prices, o.price, trail))
 
-pub place-of-requires : goal.place-of-requires
-place-of-requires g c =
+pub place_of-requires : goal.place_of-requires
+place_of-requires g c =
     let bytes = map g.S.Symbol.byte c.args.ground.cells.now in
     let query = map g.S.Symbol.byte c.args.query.now in
     let granted = c.requires.0 in
@@ -46,6 +46,6 @@ returns g c = λ ask asked.
     let fit : SFits w32 o.shift = search rules in
     let settled = c.in-Some.ensures ask asked in
     let trail = settled_trail bytes query g.S.Symbol.kind c.args.mode c.args.limit c.args.ground.tracks m g.met.P.Price.lawful meaning ask asked want prices steps o settled in
-    let written = c.write-pieces-count.ensures ask o.shift prices o.price trail in
-    let right = found_told bytes query g.S.Symbol.kind c.args.mode c.args.limit c.args.ground.tracks m g.met.P.Price.lawful meaning ask asked want prices steps o settled c.write-pieces-count.result c.args.list.now c.write-pieces-count.new.list written in
-    subst (λ z. z) (λ j. Right ask m (record { price = meaning o.price; count = c.write-pieces-count.result; shift = sym (to_z-of_z w32 o.shift fit) j; place = sym c.place-of.ensures j }) c.args.list.now c.write-pieces-count.new.list) right
+    let written = c.write_pieces-count.ensures ask o.shift prices o.price trail in
+    let right = found_told bytes query g.S.Symbol.kind c.args.mode c.args.limit c.args.ground.tracks m g.met.P.Price.lawful meaning ask asked want prices steps o settled c.write_pieces-count.result c.args.list.now c.write_pieces-count.new.list written in
+    subst (λ z. z) (λ j. Right ask m (record { price = meaning o.price; count = c.write_pieces-count.result; shift = sym (to_z-of_z w32 o.shift fit) j; place = sym c.place_of.ensures j }) c.args.list.now c.write_pieces-count.new.list) right

@@ -12,8 +12,8 @@ loop-b-preserved g c =
     let b = c.loop-b.b in
     let tracks = c.args.ground.tracks in
     let first = note (map g.S.Symbol.byte c.args.query.now) 1 in (
-      c.preferred-best.ensures.under g.S.Symbol.kind c.args.mode c.args.counts.now first c.loop-b.invariant.0 c.best-to-here.ensures.under,
-      λ ask asked. c.preferred-best.ensures.best ask tracks 0 b (b + 1) asked.posed.covered c.requires.surveyed.one (c.loop-b.invariant.1 ask asked) (c.best-to-here.ensures.best ask asked),
+      c.preferred-best.ensures.under g.S.Symbol.kind c.args.mode c.args.counts.now first c.loop-b.invariant.0 c.best_to-here.ensures.under,
+      λ ask asked. c.preferred-best.ensures.best ask tracks 0 b (b + 1) asked.posed.covered c.requires.surveyed.one (c.loop-b.invariant.1 ask asked) (c.best_to-here.ensures.best ask asked),
     )
 
 pub returns : goal.returns

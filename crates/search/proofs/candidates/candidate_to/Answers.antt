@@ -13,21 +13,21 @@ use Rattle.search.proofs.candidates.candidate_to.Goals as goal
 none_some : (o : Option ℤ) (c : ℤ) → o ≡ None → o ≡ Some c → ⊥
 none_some o c e f = let z : ◌≡◌ {A = ℕ} 0 1 = cc in omega arith
 
-pub returns-in-default : goal.returns-in-default
-returns-in-default g c =
+pub returns-in_default : goal.returns-in_default
+returns-in_default g c =
     λ by candidate.
     let k = g.S.Symbol.kind in
     let first = note (map g.S.Symbol.byte c.args.query.now) 1 in
-    none_some (k.interval first c.args.b) by (no_interval k g.met.S.Symbol.lawful first c.args.b c.in-default.ensures) candidate.leads
+    none_some (k.interval first c.args.b) by (no_interval k g.met.S.Symbol.lawful first c.args.b c.in_default.ensures) candidate.leads
 
-pub returns-in-default-interval : goal.returns-in-default-interval
-returns-in-default-interval g c =
+pub returns-in_default-interval : goal.returns-in_default-interval
+returns-in_default-interval g c =
     λ by candidate.
     let k = g.S.Symbol.kind in
     let byte = g.S.Symbol.byte in
     let xs = c.args.query.now in
     let first = byte_at byte xs 0 c.index-query-0.result rest (omega (arith, c.requires)) c.index-query-0.is in
-    none_some (k.interval (note (map byte xs) 1) c.args.b) by ((λ j. k.interval (first j) (sym c.in-Some.ensures j)) ∙ sym c.in-default-interval.ensures) candidate.leads
+    none_some (k.interval (note (map byte xs) 1) c.args.b) by ((λ j. k.interval (first j) (sym c.in-Some.ensures j)) ∙ sym c.in_default-interval.ensures) candidate.leads
 
 pub returns-then-admits : goal.returns-then-admits
 returns-then-admits g c =

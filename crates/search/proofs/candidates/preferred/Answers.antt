@@ -3,19 +3,19 @@ use Rattle.search.specs.Candidates.{Among, UnderCandidate}
 use Rattle.search.proofs.Preferring.{parted, swapped, deep, alone, wins, behind}
 use Rattle.search.proofs.candidates.preferred.Goals as goal
 
-pub returns-in-default : goal.returns-in-default
-returns-in-default g c =
+pub returns-in_default : goal.returns-in_default
+returns-in_default g c =
     record {
       under = λ k mode counts first one other. other;
       best =
           λ ask tracks low mid high covered some one other.
           let m = g.P.Price.pricing in
           let meaning = g.P.Price.meaning in
-          behind m g.met.P.Price.lawful meaning ask covered tracks some low mid high c.args.other (subst (Among m meaning ask tracks low mid) c.in-default.is one) other;
+          behind m g.met.P.Price.lawful meaning ask covered tracks some low mid high c.args.other (subst (Among m meaning ask tracks low mid) c.in_default.is one) other;
     }
 
-pub returns-in-default-other : goal.returns-in-default-other
-returns-in-default-other g c =
+pub returns-in_default-other : goal.returns-in_default-other
+returns-in_default-other g c =
     record {
       under = λ k mode counts first one other. subst (UnderCandidate k mode counts first) c.in-Some.is one;
       best =
@@ -23,11 +23,11 @@ returns-in-default-other g c =
           let m = g.P.Price.pricing in
           let meaning = g.P.Price.meaning in
           alone m g.met.P.Price.lawful meaning ask covered tracks some low mid mid high low high (parted ask low mid high) c.in-Some.a
-          (subst (Among m meaning ask tracks low mid) c.in-Some.is one) (subst (Among m meaning ask tracks mid high) c.in-default-other.is other);
+          (subst (Among m meaning ask tracks low mid) c.in-Some.is one) (subst (Among m meaning ask tracks mid high) c.in_default-other.is other);
     }
 
-pub returns-then-comes-first : goal.returns-then-comes-first
-returns-then-comes-first g c =
+pub returns-then-comes_first : goal.returns-then-comes_first
+returns-then-comes_first g c =
     record {
       under = λ k mode counts first one other. subst (UnderCandidate k mode counts first) c.in-Some.is one;
       best =
@@ -39,12 +39,12 @@ returns-then-comes-first g c =
           let b = c.in-Some-other.b in
           let h = subst (Among m meaning ask tracks low mid) c.in-Some.is one in
           let k = subst (Among m meaning ask tracks mid high) c.in-Some-other.is other in
-          let first = c.if-comes-first.ensures (deep m laws meaning ask covered tracks some a h.stands) (deep m laws meaning ask covered tracks some b k.stands) in
+          let first = c.if-comes_first.ensures (deep m laws meaning ask covered tracks some a h.stands) (deep m laws meaning ask covered tracks some b k.stands) in
           wins m laws meaning ask covered tracks some low mid mid high low high (parted ask low mid high) a b h k first;
     }
 
-pub returns-else-comes-first : goal.returns-else-comes-first
-returns-else-comes-first g c =
+pub returns-else-comes_first : goal.returns-else-comes_first
+returns-else-comes_first g c =
     record {
       under = λ k mode counts first one other. subst (UnderCandidate k mode counts first) c.in-Some-other.is other;
       best =
@@ -56,6 +56,6 @@ returns-else-comes-first g c =
           let b = c.in-Some-other.b in
           let h = subst (Among m meaning ask tracks low mid) c.in-Some.is one in
           let k = subst (Among m meaning ask tracks mid high) c.in-Some-other.is other in
-          let first = c.if-comes-first.ensures (deep m laws meaning ask covered tracks some a h.stands) (deep m laws meaning ask covered tracks some b k.stands) in
+          let first = c.if-comes_first.ensures (deep m laws meaning ask covered tracks some a h.stands) (deep m laws meaning ask covered tracks some b k.stands) in
           wins m laws meaning ask covered tracks some mid high low mid low high (λ e led. swapped (parted ask low mid high e led)) b a k h first;
     }

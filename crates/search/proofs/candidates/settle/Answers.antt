@@ -1,8 +1,8 @@
 use Rattle.std.proofs.Common.{arith}
 use Rattle.search.proofs.candidates.settle.Goals as goal
 
-pub returns-in-default : goal.returns-in-default
-returns-in-default g c = λ ask asked. c.in-default.ensures.best ask asked
+pub returns-in_default : goal.returns-in_default
+returns-in_default g c = λ ask asked. c.in_default.ensures.best ask asked
 
 pub refill-requires : goal.refill-requires
 refill-requires g c =
@@ -11,10 +11,10 @@ refill-requires g c =
       c.requires.marks,
       c.requires.counted,
       c.requires.some,
-      omega (arith, c.requires.as_long, c.best-of-all-found.auto.want),
-      record { mode = c.args.mode; byte = u.0; small = u.1; candidate = u.2; fits = omega (arith, c.requires.room_prices, c.best-of-all-found.auto.prices) },
-      record { mode = c.args.mode; byte = u.0; small = u.1; candidate = u.2; fits = omega (arith, c.requires.room_steps, c.best-of-all-found.auto.steps) },
-      record { mode = c.args.mode; byte = u.0; small = u.1; candidate = u.2; fits = omega (arith, c.requires.room_entries, c.best-of-all-found.auto.entries) },
+      omega (arith, c.requires.as_long, c.best_of_all-found.auto.want),
+      record { mode = c.args.mode; byte = u.0; small = u.1; candidate = u.2; fits = omega (arith, c.requires.room_prices, c.best_of_all-found.auto.prices) },
+      record { mode = c.args.mode; byte = u.0; small = u.1; candidate = u.2; fits = omega (arith, c.requires.room_steps, c.best_of_all-found.auto.steps) },
+      record { mode = c.args.mode; byte = u.0; small = u.1; candidate = u.2; fits = omega (arith, c.requires.room_entries, c.best_of_all-found.auto.entries) },
     )
 
 pub returns : goal.returns

@@ -3,14 +3,14 @@ use Rattle.price.specs.History.{moved, Told}
 use Rattle.price.specs.Answers.{Holds}
 use Rattle.search.proofs.choosing.hand_over.Goals as goal
 
-pub returns-in-default : goal.returns-in-default
-returns-in-default g c = λ h holds on. absurd (let l = c.in-default.ensures.later h holds in omega arith)
+pub returns-in_default : goal.returns-in_default
+returns-in_default g c = λ h holds on. absurd (let l = c.in_default.ensures.later h holds in omega arith)
 
-pub returns-in-default-told : goal.returns-in-default-told
-returns-in-default-told g c =
+pub returns-in_default-told : goal.returns-in_default-told
+returns-in_default-told g c =
     λ h holds on.
     let a = c.in-Ok.ensures in
-    (a.holds h holds, λ bounded. subst (Told g.P.Price.pricing g.P.Price.meaning (moved h c.args.from)) c.in-default-told.is (a.tells h holds))
+    (a.holds h holds, λ bounded. subst (Told g.P.Price.pricing g.P.Price.meaning (moved h c.args.from)) c.in_default-told.is (a.tells h holds))
 
 pub returns : goal.returns
 returns g c =
@@ -18,7 +18,7 @@ returns g c =
     let a = c.in-Ok.ensures in
     let l = subst (Told g.P.Price.pricing g.P.Price.meaning (moved h c.args.from)) c.in-Some.is (a.tells h holds) in
     let e = c.in-Some.entry in
-    let gap_is : c.saturating-sub-gap.result ≡ e.position - c.args.from - 1 = omega arith in (
+    let gap_is : c.saturating_sub-gap.result ≡ e.position - c.args.from - 1 = omega arith in (
       a.holds h holds,
       λ bounded. record {
         entry = e;

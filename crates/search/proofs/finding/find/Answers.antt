@@ -16,7 +16,7 @@ answer-requires g c =
     let cells = c.symbols.result.now in
     let n = length-map query byte in
     let ask = grid_question k byte grid c.args.limit mode query in
-    let h = granted ask _ _ _ _ c.in-ok-check-question.ensures in
+    let h = granted ask _ _ _ _ c.in_ok-check_question.ensures in
     let size : workspace k mode (map byte cells) (map byte query) ≡ workspace_of ask = same_workspace k byte grid mode query cells c.symbols.ensures in
     let tracks = c.tracks.ensures in
     record {
@@ -42,7 +42,7 @@ returns g c =
     let query = c.args.query.now in
     let n = length-map query byte in
     let ask = grid_question k byte grid c.args.limit mode query in
-    let h = granted ask _ _ _ _ c.in-ok-check-question.ensures in (
-      c.in-ok-check-question.ensures,
+    let h = granted ask _ _ _ _ c.in_ok-check_question.ensures in (
+      c.in_ok-check_question.ensures,
       c.answer.ensures ask (asked k byte grid mode query c.symbols.result.now c.symbols.ensures g.met.S.Symbol.lawful (omega (arith, h.0.0.few)) c.args.limit c.tracks.result c.tracks.ensures),
     )

@@ -17,8 +17,8 @@ loop-note-init g c =
     let n = length-map xs g.S.Symbol.byte in
     (c.requires.2, omega arith, c.requires.5, λ ask d prices a trail. subst (λ o. Following g.P.Price.pricing g.P.Price.meaning (map g.S.Symbol.byte xs) c.args.ground.tracks c.args.want.now c.args.steps.now c.args.start ask d prices a 0 c.args.start 0 o c.args.list.now c.args.list.now) (sym c.lone-open.ensures) (following_none g.P.Price.pricing g.P.Price.meaning (map g.S.Symbol.byte xs) c.args.ground.tracks c.args.want.now c.args.steps.now c.args.start ask d prices a c.requires.0.one (omega (arith, c.requires.0.few)) trail c.args.list.now c.requires.2))
 
-pub offset-bounds-ground-place : goal.offset-bounds-ground-place
-offset-bounds-ground-place g c =
+pub offset_bounds-ground-place : goal.offset_bounds-ground-place
+offset_bounds-ground-place g c =
     let t = c.requires.6 in
     omega (arith, (stays (c.loop-note.invariant.3 t.0 t.1 t.2 t.3 t.4)).0, c.requires.0.few, length-map c.args.ground.cells.now g.S.Symbol.byte)
 
@@ -27,15 +27,15 @@ bounds-ground-place g c =
     let t = c.requires.6 in
     omega (arith, (stays (c.loop-note.invariant.3 t.0 t.1 t.2 t.3 t.4)).0, c.requires.0.long_after, length-map c.args.ground.cells.now g.S.Symbol.byte)
 
-pub overflow-add-step : goal.overflow-add-step
-overflow-add-step g c =
+pub overflow_add-step : goal.overflow_add-step
+overflow_add-step g c =
     let t = c.requires.6 in
     let s = stays (c.loop-note.invariant.3 t.0 t.1 t.2 t.3 t.4) in
     let n = length-map c.args.ground.cells.now g.S.Symbol.byte in
     omega (arith, c.well-formed, step_in g.S.Symbol.byte c.args.ground c.requires.0 c.args.want.now c.args.steps.now c.loop-note.note c.loop-note.place c.loop-note.offset c.loop-note.invariant.0 c.requires.4 c.loop-note.invariant.2 (omega (arith, s.0)) s.1)
 
-pub offset-bounds-steps-offset : goal.offset-bounds-steps-offset
-offset-bounds-steps-offset g c =
+pub offset_bounds-steps-offset : goal.offset_bounds-steps-offset
+offset_bounds-steps-offset g c =
     let t = c.requires.6 in
     let s = stays (c.loop-note.invariant.3 t.0 t.1 t.2 t.3 t.4) in
     let n = length-map c.args.ground.cells.now g.S.Symbol.byte in
@@ -48,18 +48,18 @@ bounds-steps-offset g c =
     let n = length-map c.args.ground.cells.now g.S.Symbol.byte in
     step_in g.S.Symbol.byte c.args.ground c.requires.0 c.args.want.now c.args.steps.now c.loop-note.note c.loop-note.place c.loop-note.offset c.loop-note.invariant.0 c.requires.4 c.loop-note.invariant.2 (omega (arith, s.0)) s.1
 
-pub overflow-sub-offset : goal.overflow-sub-offset
-overflow-sub-offset g c =
-    let small : get_or c.args.want.now (c.loop-note.note + 1) 0 < 256 = omega (arith, c.type-inv.want (c.loop-note.note + 1)) in
+pub overflow_sub-offset : goal.overflow_sub-offset
+overflow_sub-offset g c =
+    let small : get_or c.args.want.now (c.loop-note.note + 1) 0 < 256 = omega (arith, c.type_inv.want (c.loop-note.note + 1)) in
     omega (arith, offset_lower (map g.S.Symbol.byte c.args.ground.cells.now) c.args.want.now c.args.counts.now c.loop-note.note c.loop-note.offset c.requires.1 small (omega arith) c.loop-note.invariant.2)
 
-pub overflow-add-place : goal.overflow-add-place
-overflow-add-place g c =
+pub overflow_add-place : goal.overflow_add-place
+overflow_add-place g c =
     let t = c.requires.6 in
     omega (arith, (stays (c.loop-note.invariant.3 t.0 t.1 t.2 t.3 t.4)).0, c.requires.0.few, c.requires.0.narrow, length-map c.args.ground.cells.now g.S.Symbol.byte)
 
-pub overflow-add-open : goal.overflow-add-open
-overflow-add-open g c =
+pub overflow_add-open : goal.overflow_add-open
+overflow_add-open g c =
     let t = c.requires.6 in
     let f = c.loop-note.invariant.3 t.0 t.1 t.2 t.3 t.4 in
     omega (arith, c.well-formed, f.note_is)
@@ -80,7 +80,7 @@ loop-note-preserved-then-step g c =
     let at = stays (c.loop-note.invariant.3 t.0 t.1 t.2 t.3 t.4) in
     let s = get_or steps (c.loop-note.offset + get_or c.args.ground.after.now q 0) 0 in
     let is = step_is g.S.Symbol.byte c.args.ground c.requires.0 want steps k q c.loop-note.offset c.loop-note.invariant.0 c.requires.4 c.loop-note.invariant.2 (omega (arith, at.0)) at.1 in
-    let small : get_or want (k + 1) 0 < 256 = omega (arith, c.type-inv.want (k + 1)) in
+    let small : get_or want (k + 1) 0 < 256 = omega (arith, c.type_inv.want (k + 1)) in
     let low = offset_lower bytes want c.args.counts.now k c.loop-note.offset c.requires.1 small c.loop-note-test.true c.loop-note.invariant.2 in (
       c.loop-note-test.true,
       omega (arith, c.loop-note.invariant.1),
@@ -123,7 +123,7 @@ loop-note-preserved g c =
     let at = stays (c.loop-note.invariant.3 t.0 t.1 t.2 t.3 t.4) in
     let s = get_or steps (c.loop-note.offset + get_or c.args.ground.after.now q 0) 0 in
     let is = step_is g.S.Symbol.byte c.args.ground c.requires.0 want steps k q c.loop-note.offset c.loop-note.invariant.0 c.requires.4 c.loop-note.invariant.2 (omega (arith, at.0)) at.1 in
-    let small : get_or want (k + 1) 0 < 256 = omega (arith, c.type-inv.want (k + 1)) in
+    let small : get_or want (k + 1) 0 < 256 = omega (arith, c.type_inv.want (k + 1)) in
     let low = offset_lower bytes want c.args.counts.now k c.loop-note.offset c.requires.1 small c.loop-note-test.true c.loop-note.invariant.2 in (
       c.loop-note-test.true,
       omega (arith, c.loop-note.invariant.1),

@@ -10,9 +10,9 @@ returns-then-query-lt1 g c = bad_length g.S.Symbol.byte c.args.query.now (elim c
 pub returns-then-front-query : goal.returns-then-front-query
 returns-then-front-query g c =
     good_length g.S.Symbol.byte c.args.query.now c.if-query-lt1.false c.if-query-gt64.false
-    ∙ front_refuses g.S.Symbol.byte sounds c.args.query.now 18 Query c.sounding-front-front.result c.sounding-front-front.ensures c.if-front-query.true
+    ∙ front_refuses g.S.Symbol.byte sounds c.args.query.now 18 Query c.sounding_front-front.result c.sounding_front-front.ensures c.if-front-query.true
 
 pub returns : goal.returns
 returns g c =
     good_length g.S.Symbol.byte c.args.query.now c.if-query-lt1.false c.if-query-gt64.false
-    ∙ front_keeps g.S.Symbol.byte sounds c.args.query.now 18 Query c.sounding-front-front.result c.sounding-front-front.ensures c.if-front-query.false
+    ∙ front_keeps g.S.Symbol.byte sounds c.args.query.now 18 Query c.sounding_front-front.result c.sounding_front-front.ensures c.if-front-query.false

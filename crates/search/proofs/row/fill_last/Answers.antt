@@ -9,14 +9,14 @@ use Rattle.search.proofs.row.fill_last.Goals as goal
 pub loop-mark-init : goal.loop-mark-init
 loop-mark-init g c = (c.requires.2.low, c.requires.2.holds, λ q l n e. absurd (c.requires.2.none q l n e))
 
-pub offset-bounds-ground-place : goal.offset-bounds-ground-place
-offset-bounds-ground-place g c = omega (arith, c.loop-mark.invariant.0, c.requires.0.few, length-map c.args.ground.cells.now g.S.Symbol.byte)
+pub offset_bounds-ground-place : goal.offset_bounds-ground-place
+offset_bounds-ground-place g c = omega (arith, c.loop-mark.invariant.0, c.requires.0.few, length-map c.args.ground.cells.now g.S.Symbol.byte)
 
 pub bounds-ground-place : goal.bounds-ground-place
 bounds-ground-place g c = omega (arith, c.loop-mark.invariant.0, c.requires.0.long_after, length-map c.args.ground.cells.now g.S.Symbol.byte)
 
-pub overflow-add-at : goal.overflow-add-at
-overflow-add-at g c =
+pub overflow_add-at : goal.overflow_add-at
+overflow_add-at g c =
     let n = length-map c.args.ground.cells.now g.S.Symbol.byte in
     omega (arith, c.well-formed, rank_in g.S.Symbol.byte c.args.ground c.requires.0 c.args.row.byte c.args.row.offset (length c.args.prices.now) (c.loop-mark.mark - 1) c.requires.1 (omega (arith, c.loop-mark.invariant.0)) (c.loop-mark.invariant.1 c.loop-mark-test.true))
 
@@ -26,8 +26,8 @@ store-requires g c =
     let kept : length c.loop-mark.prices ≡ length c.args.prices.now = c.loop-mark.auto.prices in
     rank_in g.S.Symbol.byte c.args.ground c.requires.0 c.args.row.byte c.args.row.offset (length c.loop-mark.prices) (c.loop-mark.mark - 1) (omega (arith, c.requires.1)) (omega (arith, c.loop-mark.invariant.0)) (c.loop-mark.invariant.1 c.loop-mark-test.true)
 
-pub offset-bounds-ground-place-in-loop-mark : goal.offset-bounds-ground-place-in-loop-mark
-offset-bounds-ground-place-in-loop-mark g c = omega (arith, c.loop-mark.invariant.0, c.requires.0.few, length-map c.args.ground.cells.now g.S.Symbol.byte)
+pub offset_bounds-ground-place-in-loop-mark : goal.offset_bounds-ground-place-in-loop-mark
+offset_bounds-ground-place-in-loop-mark g c = omega (arith, c.loop-mark.invariant.0, c.requires.0.few, length-map c.args.ground.cells.now g.S.Symbol.byte)
 
 pub bounds-ground-place-in-loop-mark : goal.bounds-ground-place-in-loop-mark
 bounds-ground-place-in-loop-mark g c = omega (arith, c.loop-mark.invariant.0, c.requires.0.long_previous, length-map c.args.ground.cells.now g.S.Symbol.byte)

@@ -31,14 +31,14 @@ within byte x surveyed b offset n q room e = let h = held byte x.cells.now q b e
 pub bounds-ground-place : goal.bounds-ground-place
 bounds-ground-place g c = omega (arith, c.requires.0.long_after, (held g.S.Symbol.byte c.args.ground.cells.now c.args.place c.args.row.byte c.if-not-holds.ensures).0)
 
-pub offset-bounds-ground-place : goal.offset-bounds-ground-place
-offset-bounds-ground-place g c = omega (arith, c.requires.0.few, (held g.S.Symbol.byte c.args.ground.cells.now c.args.place c.args.row.byte c.if-not-holds.ensures).0)
+pub offset_bounds-ground-place : goal.offset_bounds-ground-place
+offset_bounds-ground-place g c = omega (arith, c.requires.0.few, (held g.S.Symbol.byte c.args.ground.cells.now c.args.place c.args.row.byte c.if-not-holds.ensures).0)
 
-pub overflow-add-result : goal.overflow-add-result
-overflow-add-result g c = omega (arith, c.well-formed, within g.S.Symbol.byte c.args.ground c.requires.0 c.args.row.byte c.args.row.offset (length c.args.prices.now) c.args.place c.requires.1 c.if-not-holds.ensures)
+pub overflow_add-result : goal.overflow_add-result
+overflow_add-result g c = omega (arith, c.well-formed, within g.S.Symbol.byte c.args.ground c.requires.0 c.args.row.byte c.args.row.offset (length c.args.prices.now) c.args.place c.requires.1 c.if-not-holds.ensures)
 
-pub offset-bounds-prices-row : goal.offset-bounds-prices-row
-offset-bounds-prices-row g c = omega (arith, within g.S.Symbol.byte c.args.ground c.requires.0 c.args.row.byte c.args.row.offset (length c.args.prices.now) c.args.place c.requires.1 c.if-not-holds.ensures)
+pub offset_bounds-prices-row : goal.offset_bounds-prices-row
+offset_bounds-prices-row g c = omega (arith, within g.S.Symbol.byte c.args.ground c.requires.0 c.args.row.byte c.args.row.offset (length c.args.prices.now) c.args.place c.requires.1 c.if-not-holds.ensures)
 
 pub bounds-prices-row : goal.bounds-prices-row
 bounds-prices-row g c = within g.S.Symbol.byte c.args.ground c.requires.0 c.args.row.byte c.args.row.offset (length c.args.prices.now) c.args.place c.requires.1 c.if-not-holds.ensures

@@ -6,7 +6,7 @@ use Rattle.search.specs.Rows.{value, entry_at, Fed}
 use Rattle.search.proofs.Valuing.{value_byte}
 use Rattle.search.proofs.Feeding.{fed_lower, fed_by, fed_skip}
 use Rattle.search.proofs.row.take_in.Goals as goal
-use Rattle.search.proofs.row.take_in.Goals.{in-Some, in-default}
+use Rattle.search.proofs.row.take_in.Goals.{in-Some, in_default}
 
 pub loop-ahead-smaller : goal.loop-ahead-smaller
 loop-ahead-smaller g c =
@@ -35,21 +35,21 @@ loop-ahead-preserved g c =
       λ h fed on.
           let old = c.loop-ahead.invariant.2 h fed on in
           let f = subst (λ z. Fed g.P.Price.pricing g.P.Price.meaning bytes tracks b row c.loop-ahead.window z old.0) next old.1 in
-          elim c.match-price-at.branch [
+          elim c.match-price_at.branch [
             | in-Some v ↦
                 let e = entry_at tracks q v.in-Some.price in
                 let is : row q ≡ _ = sym v.in-Some.ensures in (
                   put_in old.0 c.args.from e,
-                  fed_lower g.P.Price.pricing g.P.Price.meaning bytes tracks b row one matched q w mark.low mark.none c.match-price-at.window (put_in old.0 c.args.from e)
+                  fed_lower g.P.Price.pricing g.P.Price.meaning bytes tracks b row one matched q w mark.low mark.none c.match-price_at.window (put_in old.0 c.args.from e)
                       (subst (λ z. Fed g.P.Price.pricing g.P.Price.meaning bytes tracks b row z q (put_in old.0 c.args.from e)) (sym v.window-is)
                       (fed_by g.P.Price.pricing g.P.Price.meaning bytes tracks b row one matched c.loop-ahead.window v.put.new.self q v.in-Some.price (omega arith) is c.args.from (omega (arith, c.if-ahead-ground.true)) old.0 old.2.position f v.put.result v.put.ensures)),
                   record { position = omega arith; limit = old.2.limit; memory = old.2.memory },
                 )
-            | in-default v ↦ (
+            | in_default v ↦ (
               old.0,
-              fed_lower g.P.Price.pricing g.P.Price.meaning bytes tracks b row one matched q w mark.low mark.none c.match-price-at.window old.0
+              fed_lower g.P.Price.pricing g.P.Price.meaning bytes tracks b row one matched q w mark.low mark.none c.match-price_at.window old.0
                   (subst (λ z. Fed g.P.Price.pricing g.P.Price.meaning bytes tracks b row z q old.0) (sym v.window-is)
-                  (fed_skip g.P.Price.pricing g.P.Price.meaning bytes tracks b row one matched c.loop-ahead.window q (sym v.in-default.ensures) old.0 f)),
+                  (fed_skip g.P.Price.pricing g.P.Price.meaning bytes tracks b row one matched c.loop-ahead.window q (sym v.in_default.ensures) old.0 f)),
               old.2,
             )
           ],

@@ -6,14 +6,14 @@ use Rattle.splitting.specs.Score.{Question}
 use Rattle.search.proofs.Rowing.{offset_all, offset_last, offset_next, rows_last, rows_more, standing, standing_before, Asks, asked, Gives}
 use Rattle.search.proofs.rows.fill_rows.Goals as goal
 
-pub fill-last-requires : goal.fill-last-requires
-fill-last-requires g c =
+pub fill_last-requires : goal.fill_last-requires
+fill_last-requires g c =
     let bytes = map g.S.Symbol.byte c.args.ground.cells.now in
     let want = c.args.want.now in
     let k = length want - 1 in (
       c.requires.0,
       omega (arith, offset_all bytes want k (omega (arith, c.requires.3)), c.requires.4),
-      c.requires.1 (get_or want k 0) (omega (arith, c.type-inv.want k)),
+      c.requires.1 (get_or want k 0) (omega (arith, c.type_inv.want k)),
     )
 
 pub loop-i-init : goal.loop-i-init
@@ -29,21 +29,21 @@ loop-i-init g c =
     let zero_is = offset_last bytes want k end in (
       omega (arith, c.requires.3),
       (λ j. record { byte = b; start = get_or c.args.last.now b 0; offset = sym zero_is j }),
-      rows_last bytes want m meaning tracks c.args.limit k c.fill-last.new.prices c.args.steps.now end
-          (subst (λ z. (ask : Question) (e : ℤ) → Posed ask bytes tracks → Wants ask e (length ask.query) b → LeastRow m meaning ask bytes tracks e (length ask.query) b (value bytes b z c.fill-last.new.prices) 0) (sym zero_is) c.fill-last.ensures),
+      rows_last bytes want m meaning tracks c.args.limit k c.fill_last.new.prices c.args.steps.now end
+          (subst (λ z. (ask : Question) (e : ℤ) → Posed ask bytes tracks → Wants ask e (length ask.query) b → LeastRow m meaning ask bytes tracks e (length ask.query) b (value bytes b z c.fill_last.new.prices) 0) (sym zero_is) c.fill_last.ensures),
     )
 
-pub row-before-row-requires : goal.row-before-row-requires
-row-before-row-requires g c =
+pub row_before-row-requires : goal.row_before-row-requires
+row_before-row-requires g c =
     let bytes = map g.S.Symbol.byte c.args.ground.cells.now in
     let want = c.args.want.now in
     let i = c.loop-i.i in
     let counts = c.args.counts.now in
     subst (λ (r : Row). r.offset + get_or counts r.byte 0 < 18446744073709551616) (sym c.loop-i.invariant.1)
-    (omega (arith, c.well-formed, offset_all bytes want i c.loop-i.invariant.0, c.requires.2 (get_or want i 0) (omega (arith, c.type-inv.want i)), c.requires.5))
+    (omega (arith, c.well-formed, offset_all bytes want i c.loop-i.invariant.0, c.requires.2 (get_or want i 0) (omega (arith, c.type_inv.want i)), c.requires.5))
 
-pub fill-row-requires : goal.fill-row-requires
-fill-row-requires g c =
+pub fill_row-requires : goal.fill_row-requires
+fill_row-requires g c =
     let bytes = map g.S.Symbol.byte c.args.ground.cells.now in
     let want = c.args.want.now in
     let last = c.args.last.now in
@@ -51,10 +51,10 @@ fill-row-requires g c =
     let i-is : c.loop-i.i ≡ k + 1 = omega arith in
     let more : k + 1 < length want = omega (arith, c.loop-i.invariant.0) in
     let next-is = c.loop-i.invariant.1 ∙ ap (standing bytes want last) i-is in
-    let row_is = standing_before bytes want last c.args.counts.now k c.requires.2 (λ j. omega (arith, c.type-inv.want j)) more c.loop-i.row c.row-before-row.result next-is c.row-before-row.ensures in
+    let row_is = standing_before bytes want last c.args.counts.now k c.requires.2 (λ j. omega (arith, c.type_inv.want j)) more c.loop-i.row c.row_before-row.result next-is c.row_before-row.ensures in
     let a =
     subst (λ i. i) (λ j. Asks bytes (length c.loop-i.prices) (length c.loop-i.steps) (length c.loop-i.entries) (sym row_is j) (sym next-is j))
-    (asked bytes want last (length c.loop-i.prices) (length c.loop-i.steps) (length c.loop-i.entries) k c.requires.1 (λ j. omega (arith, c.type-inv.want j)) more (omega (arith, c.requires.4, c.loop-i.auto.prices, c.fill-last.auto.prices)) (omega (arith, c.requires.5, c.loop-i.auto.steps)) (omega (arith, c.requires.6, c.loop-i.auto.entries))) in
+    (asked bytes want last (length c.loop-i.prices) (length c.loop-i.steps) (length c.loop-i.entries) k c.requires.1 (λ j. omega (arith, c.type_inv.want j)) more (omega (arith, c.requires.4, c.loop-i.auto.prices, c.fill_last.auto.prices)) (omega (arith, c.requires.5, c.loop-i.auto.steps)) (omega (arith, c.requires.6, c.loop-i.auto.entries))) in
     (c.requires.0, a.0, a.1, a.2, a.3, a.4, a.5)
 
 pub loop-i-preserved : goal.loop-i-preserved
@@ -69,14 +69,14 @@ loop-i-preserved g c =
     let i-is : c.loop-i.i ≡ k + 1 = omega arith in
     let more : k + 1 < length want = omega (arith, c.loop-i.invariant.0) in
     let next-is = c.loop-i.invariant.1 ∙ ap (standing bytes want last) i-is in
-    let row_is = standing_before bytes want last c.args.counts.now k c.requires.2 (λ j. omega (arith, c.type-inv.want j)) more c.loop-i.row c.row-before-row.result next-is c.row-before-row.ensures in
-    let f = c.fill-row.ensures in
+    let row_is = standing_before bytes want last c.args.counts.now k c.requires.2 (λ j. omega (arith, c.type_inv.want j)) more c.loop-i.row c.row_before-row.result next-is c.row_before-row.ensures in
+    let f = c.fill_row.ensures in
     let given =
-    subst (λ i. i) (λ j. Gives m meaning bytes tracks c.args.limit c.loop-i.prices c.fill-row.new.prices c.loop-i.steps c.fill-row.new.steps (row_is j) (next-is j))
-    (f.prices-before, f.steps-before, f.right) in (
+    subst (λ i. i) (λ j. Gives m meaning bytes tracks c.args.limit c.loop-i.prices c.fill_row.new.prices c.loop-i.steps c.fill_row.new.steps (row_is j) (next-is j))
+    (f.prices_before, f.steps_before, f.right) in (
       omega (arith, c.loop-i.invariant.0),
       row_is,
-      rows_more bytes want m meaning tracks c.args.limit k c.loop-i.prices c.fill-row.new.prices c.loop-i.steps c.fill-row.new.steps given.0 given.1 more
+      rows_more bytes want m meaning tracks c.args.limit k c.loop-i.prices c.fill_row.new.prices c.loop-i.steps c.fill_row.new.steps given.0 given.1 more
           (subst (RowsRight m meaning bytes tracks c.args.limit want c.loop-i.prices c.loop-i.steps) i-is c.loop-i.invariant.2) given.2,
     )
 

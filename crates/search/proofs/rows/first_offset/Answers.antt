@@ -7,11 +7,11 @@ use Rattle.search.proofs.rows.first_offset.Goals as goal
 others : (want : List ℕ) → take (length want - 1) (drop 1 want) ≡ drop 1 want
 others want = take_all (length want - 1) (drop 1 want) (omega (arith, length-drop 1 want))
 
-pub overflow-add-offset : goal.overflow-add-offset
-overflow-add-offset c =
+pub overflow_add-offset : goal.overflow_add-offset
+overflow_add-offset c =
     let want = c.args.want.now in
     let b = get_or (take (length want - 1) (drop 1 want)) c.loop-b.b-index 0 in
-    omega (arith, c.loop-b.invariant.0, c.row-size-offset.ensures.small, c.requires.1, ap length (others want), length-drop 1 want, c.loop-b-test.true)
+    omega (arith, c.loop-b.invariant.0, c.row_size-offset.ensures.small, c.requires.1, ap length (others want), length-drop 1 want, c.loop-b-test.true)
 
 pub loop-b-preserved : goal.loop-b-preserved
 loop-b-preserved c =
@@ -19,9 +19,9 @@ loop-b-preserved c =
     let i = c.loop-b.b-index in
     let b = get_or (take (length want - 1) (drop 1 want)) i 0 in
     let same : b ≡ get_or (drop 1 want) i 0 = ap (λ z. get_or z i 0) (others want) in (
-      omega (arith, c.loop-b.invariant.0, c.row-size-offset.ensures.small),
+      omega (arith, c.loop-b.invariant.0, c.row_size-offset.ensures.small),
       λ bytes counted.
-          let one : c.row-size-offset.result ≡ count_by (eqb (get_or (drop 1 want) i 0)) bytes = c.row-size-offset.ensures.is ∙ counted b (omega arith) ∙ ap (λ z. count_by (eqb z) bytes) same in
+          let one : c.row_size-offset.result ≡ count_by (eqb (get_or (drop 1 want) i 0)) bytes = c.row_size-offset.ensures.is ∙ counted b (omega arith) ∙ ap (λ z. count_by (eqb z) bytes) same in
           (λ j. c.loop-b.invariant.1 bytes counted j + one j) ∙ sym (sum_by_more (λ z. count_by (eqb z) bytes) (drop 1 want) i 0 (omega (arith, ap length (others want)))),
     )
 

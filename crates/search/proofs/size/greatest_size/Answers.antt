@@ -6,7 +6,7 @@ pub loop-b-preserved : goal.loop-b-preserved
 loop-b-preserved g c =
     λ cells counted.
     let size = sized g.S.Symbol.kind c.args.mode cells (map g.S.Symbol.byte c.args.query.now) in
-    c.max-size.ensures ∙ (λ j. max (c.loop-b.invariant cells counted j) (c.size-to.ensures cells counted j)) ∙ sym (top_more size c.loop-b.b)
+    c.max-size.ensures ∙ (λ j. max (c.loop-b.invariant cells counted j) (c.size_to.ensures cells counted j)) ∙ sym (top_more size c.loop-b.b)
 
 pub returns : goal.returns
 returns g c =

@@ -12,7 +12,7 @@ returns-in-Some g c =
     let at : k.interval a b ≡ Some c.args.by = ap (k.interval a) c.write.ensures ∙ subst (λ z. k.interval a (g.S.Symbol.byte c.in-Some.s) ≡ Some z) e c.in-Some.ensures in
     record {
       small = c.fits-counts b;
-      counted = λ cells counted. counted b c.write.type-inv ∙ sym (matching_byte k g.met.S.Symbol.lawful c.args.by a b at cells);
+      counted = λ cells counted. counted b c.write.type_inv ∙ sym (matching_byte k g.met.S.Symbol.lawful c.args.by a b at cells);
     }
 
 pub returns-in-None : goal.returns-in-None

@@ -15,9 +15,9 @@ loop-s-preserved g c =
     let i = c.loop-s.s-index in
     let x = c.s-item.result in
     let n = length-map xs byte in (
-      omega (arith, c.loop-s.invariant.0, c.matching-places-sum.ensures.small),
+      omega (arith, c.loop-s.invariant.0, c.matching_places-sum.ensures.small),
       λ cells counted.
-          let one : c.matching-places-sum.result ≡ matching k by cells (get_or (map byte xs) i 0) = c.matching-places-sum.ensures.counted cells counted ∙ ap (matching k by cells) (sym (byte_at byte xs i x 0 c.loop-s-test.true c.s-item.is)) in
+          let one : c.matching_places-sum.result ≡ matching k by cells (get_or (map byte xs) i 0) = c.matching_places-sum.ensures.counted cells counted ∙ ap (matching k by cells) (sym (byte_at byte xs i x 0 c.loop-s-test.true c.s-item.is)) in
           (λ j. c.loop-s.invariant.1 cells counted j + one j) ∙ sym (sum_by_more (matching k by cells) (map byte xs) i 0 (omega arith)),
     )
 

@@ -3,8 +3,8 @@ use Rattle.std.proofs.lemmas.List.{length-map}
 use Rattle.search.proofs.Refusing.{sound}
 use Rattle.search.proofs.size.size_checked.Goals as goal
 
-pub size-asked-requires : goal.size-asked-requires
-size-asked-requires g c =
+pub size_asked-requires : goal.size_asked-requires
+size_asked-requires g c =
     let n = length-map c.args.query.now g.S.Symbol.byte in
-    let h = sound (map g.S.Symbol.byte c.args.query.now) c.in-ok-check-query.ensures in
+    let h = sound (map g.S.Symbol.byte c.args.query.now) c.in_ok-check_query.ensures in
     (c.requires, (omega (arith, h.some), omega (arith, h.few)))

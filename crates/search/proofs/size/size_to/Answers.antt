@@ -9,22 +9,22 @@ use Rattle.search.proofs.Counts.{sized, size_none, size_some, no_interval}
 use Rattle.search.proofs.Refusing.{byte_at}
 use Rattle.search.proofs.size.size_to.Goals as goal
 
-pub returns-in-default : goal.returns-in-default
-returns-in-default g c =
+pub returns-in_default : goal.returns-in_default
+returns-in_default g c =
     λ cells counted.
     let k = g.S.Symbol.kind in
     let query = map g.S.Symbol.byte c.args.query.now in
-    size_none k c.args.mode cells query (ltb 0 (count_by (eqb c.args.b) cells)) (k.interval (note query 1) c.args.b) (no_interval k g.met.S.Symbol.lawful (note query 1) c.args.b c.in-default.ensures)
+    size_none k c.args.mode cells query (ltb 0 (count_by (eqb c.args.b) cells)) (k.interval (note query 1) c.args.b) (no_interval k g.met.S.Symbol.lawful (note query 1) c.args.b c.in_default.ensures)
 
-pub returns-in-default-interval : goal.returns-in-default-interval
-returns-in-default-interval g c =
+pub returns-in_default-interval : goal.returns-in_default-interval
+returns-in_default-interval g c =
     λ cells counted.
     let k = g.S.Symbol.kind in
     let byte = g.S.Symbol.byte in
     let xs = c.args.query.now in
     let first = byte_at byte xs 0 c.index-query-0.result rest (omega (arith, c.requires.0)) c.index-query-0.is in
     let to = c.in-Some.ensures in
-    size_none k c.args.mode cells (map byte xs) (ltb 0 (count_by (eqb c.args.b) cells)) (k.interval (note (map byte xs) 1) c.args.b) ((λ j. k.interval (first j) (sym to j)) ∙ sym c.in-default-interval.ensures)
+    size_none k c.args.mode cells (map byte xs) (ltb 0 (count_by (eqb c.args.b) cells)) (k.interval (note (map byte xs) 1) c.args.b) ((λ j. k.interval (first j) (sym to j)) ∙ sym c.in_default-interval.ensures)
 
 -- a candidate leads to the byte, which the score holds
 module _ {S : Type 0} (byte : S → ℕ) (k : Kind) (mode : Mode) (counts : List ℕ) (xs : List S) (b : ℕ) (small : b < 256) (held : get_or counts b 0 ≡ 0 → ⊥) (some : 1 ≤ length xs) (first : S) (first_is : first ≡ get_or xs 0 first) (s : S) (s-is : byte s ≡ b) (by : ℤ) (leads : Some by ≡ k.interval (byte first) (byte s)) (cells : List ℕ) (counted : Counted counts cells) where
@@ -45,8 +45,8 @@ returns-then-admits g c =
     let fit : SFits w32 by = search rules in
     let e = to_z-of_z w32 by fit in
     let xs = c.args.query.now in
-    led g.S.Symbol.byte k c.args.mode c.args.counts.now xs c.args.b (omega arith) c.if-counts-b-eq0.false c.requires.0 c.index-query-0.result c.index-query-0.is c.in-Some.s c.in-Some.ensures by c.in-Some-interval.ensures cells counted c.matching-triples.result
-    (c.matching-triples.ensures cells counted ∙ ap (λ z. triples k z cells (map g.S.Symbol.byte xs)) e ∙ sym (cond-true (admits c.args.mode by) _ 0 (ap (admits c.args.mode) (sym e) ∙ sym c.if-admits.ensures)))
+    led g.S.Symbol.byte k c.args.mode c.args.counts.now xs c.args.b (omega arith) c.if-counts-b-eq0.false c.requires.0 c.index-query-0.result c.index-query-0.is c.in-Some.s c.in-Some.ensures by c.in-Some-interval.ensures cells counted c.matching_triples.result
+    (c.matching_triples.ensures cells counted ∙ ap (λ z. triples k z cells (map g.S.Symbol.byte xs)) e ∙ sym (cond-true (admits c.args.mode by) _ 0 (ap (admits c.args.mode) (sym e) ∙ sym c.if-admits.ensures)))
 
 pub returns-else-admits : goal.returns-else-admits
 returns-else-admits g c =

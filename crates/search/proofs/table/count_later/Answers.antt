@@ -14,17 +14,17 @@ loop-p-init g c =
     let n = length-map xs byte in
     (refl, omega arith, counted_none (map byte xs) (length xs) (sym n), λ q l m. absurd (omega arith))
 
-pub overflow-cast-after : goal.overflow-cast-after
-overflow-cast-after g c =
+pub overflow_cast-after : goal.overflow_cast-after
+overflow_cast-after g c =
     let bytes = map g.S.Symbol.byte c.args.cells.now in
     let b = c.write-b.result in
-    omega (arith, c.loop-p.invariant.2 b c.write-b.type-inv, count_few bytes b c.loop-p.p, length-map c.args.cells.now g.S.Symbol.byte, c.requires.0)
+    omega (arith, c.loop-p.invariant.2 b c.write-b.type_inv, count_few bytes b c.loop-p.p, length-map c.args.cells.now g.S.Symbol.byte, c.requires.0)
 
-pub overflow-add-counts : goal.overflow-add-counts
-overflow-add-counts g c =
+pub overflow_add-counts : goal.overflow_add-counts
+overflow_add-counts g c =
     let bytes = map g.S.Symbol.byte c.args.cells.now in
     let b = c.write-b.result in
-    omega (arith, c.loop-p.invariant.2 b c.write-b.type-inv, count_few bytes b c.loop-p.p, length-map c.args.cells.now g.S.Symbol.byte, c.requires.0)
+    omega (arith, c.loop-p.invariant.2 b c.write-b.type_inv, count_few bytes b c.loop-p.p, length-map c.args.cells.now g.S.Symbol.byte, c.requires.0)
 
 pub loop-p-preserved : goal.loop-p-preserved
 loop-p-preserved g c =
@@ -42,8 +42,8 @@ loop-p-preserved g c =
     let kept : length c.loop-p.after ≡ length c.args.after.now = c.loop-p.auto.after in (
       length-set c.loop-p.counts b (get_or c.loop-p.counts b 0 + 1) ∙ old.0,
       omega arith,
-      counted_more bytes p b (omega arith) holds c.write-b.type-inv c.loop-p.counts old.0 counted,
-      ranked_more bytes p b (omega arith) holds c.write-b.type-inv c.loop-p.counts old.0 counted c.loop-p.after (omega (arith, c.requires.1)) (subst (Ranked bytes c.loop-p.after) next old.3),
+      counted_more bytes p b (omega arith) holds c.write-b.type_inv c.loop-p.counts old.0 counted,
+      ranked_more bytes p b (omega arith) holds c.write-b.type_inv c.loop-p.counts old.0 counted c.loop-p.after (omega (arith, c.requires.1)) (subst (Ranked bytes c.loop-p.after) next old.3),
     )
 
 pub returns : goal.returns

@@ -20,8 +20,8 @@ loop-p-preserved g c =
     let old = c.loop-p.invariant in
     let kept : length c.loop-p.previous ≡ length c.args.previous.now = c.loop-p.auto.previous in (
       length-set c.loop-p.last b (p + 1) ∙ old.0,
-      marks_more bytes c.loop-p.previous c.loop-p.last p b holds c.write-b.type-inv old.0 old.1,
-      linked_more bytes c.loop-p.previous c.loop-p.last p b holds c.write-b.type-inv (omega (arith, c.requires.1)) old.1 old.2,
+      marks_more bytes c.loop-p.previous c.loop-p.last p b holds c.write-b.type_inv old.0 old.1,
+      linked_more bytes c.loop-p.previous c.loop-p.last p b holds c.write-b.type_inv (omega (arith, c.requires.1)) old.1 old.2,
     )
 
 pub returns : goal.returns

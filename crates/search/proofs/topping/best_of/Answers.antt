@@ -12,8 +12,8 @@ loop-mark-init g c =
     let bytes = map g.S.Symbol.byte c.args.ground.cells.now in
     (c.requires.2.low, c.requires.2.holds, λ shallow q a l e. let s = value_some bytes c.args.row.byte c.args.row.offset c.args.prices.now q a e in c.requires.2.none q l s.0 s.1)
 
-pub offset-bounds-ground-place : goal.offset-bounds-ground-place
-offset-bounds-ground-place g c = omega (arith, c.loop-mark.invariant.0, c.requires.0.few, length-map c.args.ground.cells.now g.S.Symbol.byte)
+pub offset_bounds-ground-place : goal.offset_bounds-ground-place
+offset_bounds-ground-place g c = omega (arith, c.loop-mark.invariant.0, c.requires.0.few, length-map c.args.ground.cells.now g.S.Symbol.byte)
 
 pub bounds-ground-place : goal.bounds-ground-place
 bounds-ground-place g c = omega (arith, c.loop-mark.invariant.0, c.requires.0.long_previous, length-map c.args.ground.cells.now g.S.Symbol.byte)
@@ -41,7 +41,7 @@ loop-mark-preserved g c =
       omega (arith, mark.low),
       mark.holds,
       λ shallow. top_lower m meaning bytes b c.args.row.offset prices q w mark c.better-best.result
-          (c.better-best.ensures row shallow (sym c.price-at.ensures) (subst (Topmost m meaning row c.loop-mark.best) next-mark (c.loop-mark.invariant.2 shallow))),
+          (c.better-best.ensures row shallow (sym c.price_at.ensures) (subst (Topmost m meaning row c.loop-mark.best) next-mark (c.loop-mark.invariant.2 shallow))),
     )
 
 pub returns : goal.returns

@@ -7,13 +7,13 @@ use Rattle.search.proofs.Concluding.{row_shallow, best_under}
 use Rattle.search.proofs.Rowing.{offset_all, standing}
 use Rattle.search.proofs.topping.best_under.Goals as goal
 
-pub best-of-requires : goal.best-of-requires
-best-of-requires g c =
+pub best_of-requires : goal.best_of-requires
+best_of-requires g c =
     let bytes = map g.S.Symbol.byte c.args.ground.cells.now in
     let want = c.args.want.now in
-    let is = c.fill-rows-row.ensures.first in
-    let fits = subst (λ (r : Row). r.offset + count_by (eqb r.byte) bytes ≤ length c.fill-rows-row.new.prices) (sym is) (omega (arith, offset_all bytes want 0 c.requires.3, c.requires.4, c.fill-rows-row.auto.prices)) in
-    let marked = subst (λ (r : Row). Mark bytes r.byte (length bytes) r.start) (sym is) (c.requires.1 (get_or want 0 0) (omega (arith, c.type-inv.want 0))) in
+    let is = c.fill_rows-row.ensures.first in
+    let fits = subst (λ (r : Row). r.offset + count_by (eqb r.byte) bytes ≤ length c.fill_rows-row.new.prices) (sym is) (omega (arith, offset_all bytes want 0 c.requires.3, c.requires.4, c.fill_rows-row.auto.prices)) in
+    let marked = subst (λ (r : Row). Mark bytes r.byte (length bytes) r.start) (sym is) (c.requires.1 (get_or want 0 0) (omega (arith, c.type_inv.want 0))) in
     (c.requires.0, fits, marked)
 
 pub returns : goal.returns
@@ -23,16 +23,16 @@ returns g c =
     let bytes = map g.S.Symbol.byte c.args.ground.cells.now in
     let tracks = c.args.ground.tracks in
     let want = c.args.want.now in
-    let sheet = c.fill-rows-row.new.prices in
-    let is = c.fill-rows-row.ensures.first in
+    let sheet = c.fill_rows-row.new.prices in
+    let is = c.fill_rows-row.ensures.first in
     let first = standing bytes want c.args.last.now 0 in
-    let tops = subst (λ (r : Row). Shallow m meaning (value bytes r.byte r.offset sheet) → Topmost m meaning (value bytes r.byte r.offset sheet) c.best-of.result 0) is c.best-of.ensures in
+    let tops = subst (λ (r : Row). Shallow m meaning (value bytes r.byte r.offset sheet) → Topmost m meaning (value bytes r.byte r.offset sheet) c.best_of.result 0) is c.best_of.ensures in
     record {
-      rows = c.fill-rows-row.ensures.rows;
+      rows = c.fill_rows-row.ensures.rows;
       best =
           λ ask k posed limit_is wanted.
-          let right = (c.fill-rows-row.ensures.rows ask k posed limit_is wanted 0 (omega arith) c.requires.3).least in
+          let right = (c.fill_rows-row.ensures.rows ask k posed limit_is wanted 0 (omega arith) c.requires.3).least in
           let wants = wanted.each 0 c.requires.3 in
-          best_under ask bytes tracks c.requires.0.one posed m g.met.P.Price.lawful meaning k (get_or want 0 0) first.offset sheet wants right c.best-of.result
+          best_under ask bytes tracks c.requires.0.one posed m g.met.P.Price.lawful meaning k (get_or want 0 0) first.offset sheet wants right c.best_of.result
           (tops (row_shallow ask bytes tracks c.requires.0.one posed m g.met.P.Price.lawful meaning k (get_or want 0 0) first.offset sheet wants right));
     }

@@ -5,7 +5,7 @@ use Rattle.search.proofs.Intervals.{reached_at}
 use Rattle.search.proofs.Refusing.{passes_before, byte_at}
 use Rattle.search.proofs.Moving.{Moved, moved_none, moved_more, moved_all}
 use Rattle.search.proofs.transposing.put_transposed.Goals as goal
-use Rattle.search.proofs.transposing.put_transposed.Goals.{in-Some, in-default}
+use Rattle.search.proofs.transposing.put_transposed.Goals.{in-Some, in_default}
 
 pub loop-i-init : goal.loop-i-init
 loop-i-init g c = moved_none g.S.Symbol.byte g.S.Symbol.kind (to_z w32 (of_z w32 c.args.by)) c.args.query.now c.args.out.now
@@ -24,9 +24,9 @@ loop-i-preserved g c =
       | in-Some w ↦
           subst (λ o. Moved byte k by xs c.args.out.now o (i + 1)) (sym w.out-is)
           (moved_more byte k by xs c.args.out.now c.loop-i.out i x w.in-Some.moved c.loop-i-test.true (omega (arith, c.requires.0)) c.index-query-i.is w.in-Some.ensures c.loop-i.invariant)
-      | in-default w ↦
+      | in_default w ↦
           let b = reached_at k g.met.S.Symbol.lawful c.args.by (byte x) (ap (reaches k c.args.by) (sym (byte_at byte xs i x 0 c.loop-i-test.true c.index-query-i.is)) ∙ passes_before (reaches k c.args.by) (map byte xs) 0 i (omega (arith, c.requires.1))) in
-          absurd (w.in-default.ensures b.0 (subst (λ z. k.interval (byte x) b.0 ≡ Some z) (sym e) b.1))
+          absurd (w.in_default.ensures b.0 (subst (λ z. k.interval (byte x) b.0 ≡ Some z) (sym e) b.1))
     ]
 
 pub returns : goal.returns

@@ -5,15 +5,15 @@ use Rattle.search.specs.Queries.{reaches}
 use Rattle.search.proofs.Refusing.{front_more, front_stops, front_all}
 use Rattle.search.proofs.transposing.transposable_front.Goals as goal
 
-pub returns-then-not-has-transposed : goal.returns-then-not-has-transposed
-returns-then-not-has-transposed g c =
+pub returns-then-not-has_transposed : goal.returns-then-not-has_transposed
+returns-then-not-has_transposed g c =
     let k = g.S.Symbol.kind in
     let byte = g.S.Symbol.byte in
     let e = to_z-of_z w32 c.args.by c.ranges.by in
     let xs = c.args.query.now in
     let x = c.index-query-i.result in
     front_stops byte (reaches k c.args.by) xs c.loop-i.i x (omega arith) c.index-query-i.is
-    (ap (λ z. reaches k z (byte x)) (sym e) ∙ sym c.if-not-has-transposed.ensures)
+    (ap (λ z. reaches k z (byte x)) (sym e) ∙ sym c.if-not-has_transposed.ensures)
     (subst (λ z. prefix_len (reaches k z) (map byte xs) ≡ c.loop-i.i + prefix_len (reaches k z) (drop c.loop-i.i (map byte xs))) e c.loop-i.invariant)
 
 pub loop-i-preserved : goal.loop-i-preserved
@@ -26,7 +26,7 @@ loop-i-preserved g c =
     let i = c.loop-i.i in
     subst (λ z. prefix_len (reaches k z) (map byte xs) ≡ i + 1 + prefix_len (reaches k z) (drop (i + 1) (map byte xs))) (sym e)
     (front_more byte (reaches k c.args.by) xs i x (omega arith) c.index-query-i.is
-    (ap (λ z. reaches k z (byte x)) (sym e) ∙ sym c.if-not-has-transposed.ensures)
+    (ap (λ z. reaches k z (byte x)) (sym e) ∙ sym c.if-not-has_transposed.ensures)
     (subst (λ z. prefix_len (reaches k z) (map byte xs) ≡ i + prefix_len (reaches k z) (drop i (map byte xs))) e c.loop-i.invariant))
 
 pub returns : goal.returns

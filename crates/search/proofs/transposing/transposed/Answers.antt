@@ -14,16 +14,16 @@ returns-then-front-query g c =
     let byte = g.S.Symbol.byte in
     let xs = c.args.query.now in
     let e = to_z-of_z w32 c.args.by c.ranges.by in (
-      then_kept (list_refusal (map byte xs) (length c.args.out.now)) _ c.in-ok-check-list.ensures
-          ∙ front_refuses byte (reaches k c.args.by) xs 21 Transposing c.transposable-front-front.result (c.transposable-front-front.ensures ∙ ap (λ z. prefix_len (reaches k z) (map byte xs)) e) c.if-front-query.true,
+      then_kept (list_refusal (map byte xs) (length c.args.out.now)) _ c.in_ok-check_list.ensures
+          ∙ front_refuses byte (reaches k c.args.by) xs 21 Transposing c.transposable_front-front.result (c.transposable_front-front.ensures ∙ ap (λ z. prefix_len (reaches k z) (map byte xs)) e) c.if-front-query.true,
       refl,
     )
 
-pub put-transposed-requires : goal.put-transposed-requires
-put-transposed-requires g c =
+pub put_transposed-requires : goal.put_transposed-requires
+put_transposed-requires g c =
     let xs = c.args.query.now in
-    let h = listed (map g.S.Symbol.byte xs) (length c.args.out.now) c.in-ok-check-list.ensures in
-    (omega (arith, h.1, length-map xs g.S.Symbol.byte), omega (arith, c.transposable-front-front.ensures))
+    let h = listed (map g.S.Symbol.byte xs) (length c.args.out.now) c.in_ok-check_list.ensures in
+    (omega (arith, h.1, length-map xs g.S.Symbol.byte), omega (arith, c.transposable_front-front.ensures))
 
 pub returns : goal.returns
 returns g c =
@@ -31,8 +31,8 @@ returns g c =
     let byte = g.S.Symbol.byte in
     let xs = c.args.query.now in
     let e = to_z-of_z w32 c.args.by c.ranges.by in (
-      then_kept (list_refusal (map byte xs) (length c.args.out.now)) _ c.in-ok-check-list.ensures
-          ∙ front_keeps byte (reaches k c.args.by) xs 21 Transposing c.transposable-front-front.result (c.transposable-front-front.ensures ∙ ap (λ z. prefix_len (reaches k z) (map byte xs)) e) c.if-front-query.false,
-      subst (λ z. Transposed k z (map byte xs) (map byte (take (length xs) c.put-transposed.new.out))) e c.put-transposed.ensures.moved,
-      c.put-transposed.ensures.behind,
+      then_kept (list_refusal (map byte xs) (length c.args.out.now)) _ c.in_ok-check_list.ensures
+          ∙ front_keeps byte (reaches k c.args.by) xs 21 Transposing c.transposable_front-front.result (c.transposable_front-front.ensures ∙ ap (λ z. prefix_len (reaches k z) (map byte xs)) e) c.if-front-query.false,
+      subst (λ z. Transposed k z (map byte xs) (map byte (take (length xs) c.put_transposed.new.out))) e c.put_transposed.ensures.moved,
+      c.put_transposed.ensures.behind,
     )

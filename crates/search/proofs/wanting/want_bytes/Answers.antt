@@ -6,8 +6,8 @@ use Rattle.notation.specs.Kind.{rest}
 use Rattle.search.proofs.Refusing.{byte_at}
 use Rattle.search.proofs.wanting.want_bytes.Goals as goal
 
-pub returns-in-default : goal.returns-in-default
-returns-in-default g c =
+pub returns-in_default : goal.returns-in_default
+returns-in_default g c =
     let k = g.S.Symbol.kind in
     let byte = g.S.Symbol.byte in
     let xs = c.args.query.now in
@@ -17,7 +17,7 @@ returns-in-default g c =
     let at = byte_at byte xs i x rest c.loop-k-test.true c.index-query-k.is in
     record {
       each = λ z. absurd (true≢false (sym z));
-      lacking = λ _. (i, c.loop-k-test.true, subst (λ a. (b : ℕ) → k.interval a b ≡ Some c.args.by → ⊥) (sym at) (subst (λ z. (b : ℕ) → k.interval (byte x) b ≡ Some z → ⊥) e c.in-default.ensures));
+      lacking = λ _. (i, c.loop-k-test.true, subst (λ a. (b : ℕ) → k.interval a b ≡ Some c.args.by → ⊥) (sym at) (subst (λ z. (b : ℕ) → k.interval (byte x) b ≡ Some z → ⊥) e c.in_default.ensures));
     }
 
 pub loop-k-preserved : goal.loop-k-preserved

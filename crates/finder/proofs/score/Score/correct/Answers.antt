@@ -4,8 +4,8 @@ use Rattle.std.proofs.lemmas.Bool.{cond-true, and_from, le-leb}
 use Rattle.finder.proofs.ColumnEdits.{symbol_corrected}
 use Rattle.finder.proofs.score.Score.correct.Goals as goal
 
-pub index-mut-requires : goal.index-mut-requires
-index-mut-requires g c =
+pub index_mut-requires : goal.index_mut-requires
+index_mut-requires g c =
     let s = c.args.self.now in
     omega (arith, mul-add-lt (c.args.column - 1) s.tracks (c.args.track - 1) s.capacity (omega arith) (omega arith))
 

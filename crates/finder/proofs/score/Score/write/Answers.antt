@@ -8,8 +8,8 @@ use Rattle.finder.proofs.ColumnEdits.{columns_front}
 use Rattle.finder.proofs.Filled.{in_shape, when_true, score_spelled}
 use Rattle.finder.proofs.score.Score.write.Goals as goal
 
-pub slice-bounds-new-end : goal.slice-bounds-new-end
-slice-bounds-new-end g c =
+pub slice_bounds-new-end : goal.slice_bounds-new-end
+slice_bounds-new-end g c =
     let s = c.args.self.now in
     omega (arith, mul-le s.columns s.tracks s.capacity s.tracks s.held (omega arith), s.room, c.deref.ensures.len)
 

@@ -11,7 +11,7 @@ returns g c =
     let meaning = g.P.Price.meaning in
     let xs = c.args.self.now.entries.now in
     let s = c.args.self.now.span in
-    let not : s.position < c.args.from → ⊥ = λ later. both_ways c.has_passed.result c.if-has-passed.false (c.has_passed.ensures.1 later) in
+    let not : s.position < c.args.from → ⊥ = λ later. both_ways c.has_passed.result c.if-has_passed.false (c.has_passed.ensures.1 later) in
     record {
       onward = λ h holds. onward p meaning xs s h holds.spans c.args.from not;
       holds =
