@@ -38,9 +38,9 @@ fn count_blocks(input: &[u8]) -> Result<usize, BookFault>
 
 /// The stage after block n: the block is checked by itself, and then in its turn.
 fn next_block<S: Symbol>(stage: Stage, n: usize, bytes: &[u8]) -> Result<Stage, BookFault>
-    requires fact { Open stage }
-    requires n_bound { n < 2 ^ 55 }
-    requires bytes_len { length bytes.now ≡ 512 }
+    requires stage_open { Open stage }
+    requires few_blocks { n < 2 ^ 55 }
+    requires whole_block { length bytes.now ≡ 512 }
     ensures { MatchResult result (λ s. (then (block_refusal n bytes.now) (turn_refusal S.kind stage n bytes.now) ≡ None) × (s ≡ after stage bytes.now) × Open s) (λ f. then (block_refusal n bytes.now) (turn_refusal S.kind stage n bytes.now) ≡ Some (book_told f)) }
 {
     let mark = block::checked(n, bytes)?;

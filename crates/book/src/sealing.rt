@@ -30,8 +30,8 @@ fn put_header(out: &mut [u8], letter: u8, kind: u8, number: u16, len: u16)
 
 /// Writes zeros from a place up to the check.
 fn pad(out: &mut [u8], from: usize)
-    requires out_len { length out.old ≡ 512 }
-    requires from_bound { from ≤ 508 }
+    requires whole_block { length out.old ≡ 512 }
+    requires from_within { from ≤ 508 }
     ensures { out.new ≡ take from out.old ++ replicate (508 - from) 0 ++ drop 508 out.old }
 {
     for i in from..508 {
@@ -53,8 +53,8 @@ fn put_check(out: &mut [u8])
 
 /// Makes a block of a payload that stands in its place already.
 pub(crate) fn seal(out: &mut [u8], letter: u8, kind: u8, number: u16, len: u16)
-    requires out_len { length out.old ≡ 512 }
-    requires len_bound { len ≤ 502 }
+    requires whole_block { length out.old ≡ 512 }
+    requires payload_fits { len ≤ 502 }
     ensures { out.new ≡ block_bytes letter kind number (take len (drop 6 out.old)) }
 {
     put_header(out, letter, kind, number, len);

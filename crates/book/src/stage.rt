@@ -34,11 +34,11 @@ impl Stage {
         mark: Letter,
         bytes: &[u8],
     ) -> Result<Stage, BookFault>
-        requires fact { Open self }
-        requires block_bound { block < 2 ^ 55 }
-        requires bytes_len { length bytes.now ≡ 512 }
-        requires mark_value { letter_byte mark ≡ letter bytes.now }
-        requires bytes_bound { payload_length bytes.now ≤ 502 }
+        requires stage_open { Open self }
+        requires few_blocks { block < 2 ^ 55 }
+        requires whole_block { length bytes.now ≡ 512 }
+        requires mark_is { letter_byte mark ≡ letter bytes.now }
+        requires payload_fits { payload_length bytes.now ≤ 502 }
         ensures { MatchResult result (λ s. (turn_refusal S.kind self block bytes.now ≡ None) × (s ≡ after self bytes.now) × Open s) (λ f. turn_refusal S.kind self block bytes.now ≡ Some (book_told f)) }
     {
         match (self, mark) {
@@ -65,8 +65,8 @@ impl Shape {
 
     /// The columns due in the next block, where so many are read.
     pub(crate) fn due(self, read: u16) -> u16
-        requires le_tracks { 1 ≤ self.tracks }
-        requires read_le_columns { read ≤ self.columns }
+        requires some_track { 1 ≤ self.tracks }
+        requires read_within { read ≤ self.columns }
         ensures { result ≡ due self read }
     {
         (502 / u16::from(self.tracks)).min(self.columns - read)
@@ -109,8 +109,8 @@ pub fn readable_front<S: Symbol>(bytes: &[u8]) -> usize
 }
 
 fn title<S: Symbol>(block: usize, bytes: &[u8]) -> Result<Stage, BookFault>
-    requires bytes_len { length bytes.now ≡ 512 }
-    requires bytes_value { letter bytes.now ≡ 72 }
+    requires whole_block { length bytes.now ≡ 512 }
+    requires letter_is { letter bytes.now ≡ 72 }
     ensures { MatchResult result (λ s. (title_refusal S.kind block bytes.now ≡ None) × (s ≡ opened (title_shape bytes.now) 0) × Open s) (λ f. title_refusal S.kind block bytes.now ≡ Some (book_told f)) }
 {
     if !is_expected::<S>(block, bytes[1], two_bytes(bytes[2], bytes[3])) {
@@ -132,11 +132,11 @@ fn columns<S: Symbol>(
     block: usize,
     bytes: &[u8],
 ) -> Result<Stage, BookFault>
-    requires le_tracks { (1 ≤ shape.tracks) × ((shape.tracks ≤ 16) × ((shape.columns ≤ 4096) × (read < shape.columns))) }
-    requires block_bound { block < 2 ^ 55 }
-    requires bytes_len { length bytes.now ≡ 512 }
-    requires bytes_value { letter bytes.now ≡ 67 }
-    requires bytes_bound { payload_length bytes.now ≤ 502 }
+    requires columns_due { (1 ≤ shape.tracks) × ((shape.tracks ≤ 16) × ((shape.columns ≤ 4096) × (read < shape.columns))) }
+    requires few_blocks { block < 2 ^ 55 }
+    requires whole_block { length bytes.now ≡ 512 }
+    requires letter_is { letter bytes.now ≡ 67 }
+    requires payload_fits { payload_length bytes.now ≤ 502 }
     ensures { MatchResult result (λ s. (columns_refusal S.kind shape read block bytes.now ≡ None) × (s ≡ opened shape (read + due shape read)) × Open s) (λ f. columns_refusal S.kind shape read block bytes.now ≡ Some (book_told f)) }
 {
     if !is_expected::<S>(block, bytes[1], two_bytes(bytes[2], bytes[3])) {

@@ -40,8 +40,8 @@ fn write_title(out: &mut [u8], kind: u8, tracks: u8, columns: u16)
 }
 
 fn write_block<S: Symbol>(out: &mut [u8], number: u16, symbols: &[S])
-    requires out_len { length out.old ≡ 512 }
-    requires symbols_len_bound { length symbols.now ≤ 502 }
+    requires whole_block { length out.old ≡ 512 }
+    requires payload_fits { length symbols.now ≤ 502 }
     ensures { out.new ≡ block_bytes columns_letter S.kind.number number (map S.byte symbols.now) }
 {
     put_symbols::<S>(out, 6, symbols);
@@ -50,8 +50,8 @@ fn write_block<S: Symbol>(out: &mut [u8], number: u16, symbols: &[S])
 
 /// Writes so many column blocks after the title, each with so many symbols, the last perhaps with fewer.
 fn write_columns<S: Symbol>(out: &mut [u8], symbols: &[S], a_block: usize, blocks: usize)
-    requires blocks_in_bounds { 512 * (1 + blocks) ≤ length out.old }
-    requires a_block_bound { (a_block ≤ 502) × (blocks < 65536) }
+    requires room { 512 * (1 + blocks) ≤ length out.old }
+    requires small { (a_block ≤ 502) × (blocks < 65536) }
     ensures { out.new ≡ take 512 out.old ++ column_blocks S.kind.number a_block 1 blocks (map S.byte symbols.now) ++ drop (512 * (1 + blocks)) out.old }
 {
     for m in 0..blocks {

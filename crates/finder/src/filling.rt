@@ -49,8 +49,8 @@ impl<S: Symbol> Score<S> {
 
 /// Copies the first symbols of a book of so many tracks to the front of memory.
 fn copy_symbols<S: Symbol>(book: &Book<'_, S>, tracks: usize, count: usize, memory: &mut [S])
-    requires le_tracks { 1 ≤ tracks }
-    requires count_in_bounds { count ≤ length memory.old }
+    requires some_track { 1 ≤ tracks }
+    requires room { count ≤ length memory.old }
     ensures { (g : Held) → Holds S.kind book.now g → g.tracks ≡ tracks → count ≡ g.columns * g.tracks → map S.byte memory.new ≡ g.cells ++ drop count (map S.byte memory.old) }
 {
     for i in 0..count {

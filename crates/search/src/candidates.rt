@@ -166,11 +166,11 @@ pub(crate) fn refill<S: Symbol, P: Price>(
     requires surveyed { Surveyed S.byte ground }
     requires marks { Marks (map S.byte ground.cells.now) last.now (length (map S.byte ground.cells.now)) }
     requires counted { Counted counts.now (map S.byte ground.cells.now) }
-    requires in_bounds { 1 ≤ length query.now }
-    requires want_len { length want.old ≡ length query.now }
-    requires roomy { Roomy S.kind counts.now (map S.byte ground.cells.now) (map S.byte query.now) choice.shift (length prices.old) }
-    requires roomy_2 { Roomy S.kind counts.now (map S.byte ground.cells.now) (map S.byte query.now) choice.shift (length steps.old) }
-    requires roomy_3 { Roomy S.kind counts.now (map S.byte ground.cells.now) (map S.byte query.now) choice.shift (length entries.old) }
+    requires some_note { 1 ≤ length query.now }
+    requires want_long { length want.old ≡ length query.now }
+    requires room_prices { Roomy S.kind counts.now (map S.byte ground.cells.now) (map S.byte query.now) choice.shift (length prices.old) }
+    requires room_steps { Roomy S.kind counts.now (map S.byte ground.cells.now) (map S.byte query.now) choice.shift (length steps.old) }
+    requires room_entries { Roomy S.kind counts.now (map S.byte ground.cells.now) (map S.byte query.now) choice.shift (length entries.old) }
     ensures { (ask : Question) (mode : Mode) → Asked ask (map S.byte ground.entry.cells.now) ground.entry.tracks S.kind mode limit (map S.byte query.now) → BestOfAll P.pricing P.meaning ask ground.entry.tracks choice → Settles P.pricing P.meaning ask ground.entry.tracks (map S.byte ground.entry.cells.now) limit want.new prices.new steps.new result }
 {
     if !want_bytes(query, choice.shift, want) {

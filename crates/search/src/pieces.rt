@@ -17,8 +17,8 @@ use splitting::{Piece, Place};
 
 // The column and the track of a place, both counted from 1.
 pub(crate) fn place_of(tracks: usize, place: usize) -> Place
-    requires le_tracks { 1 ≤ tracks }
-    requires place_bound { place ≤ 65536 }
+    requires some_track { 1 ≤ tracks }
+    requires place_small { place ≤ 65536 }
     ensures { result ≡ place_at tracks place }
 {
     Place {
@@ -29,8 +29,8 @@ pub(crate) fn place_of(tracks: usize, place: usize) -> Place
 
 // A piece of one note, which lies at a place.
 fn lone(tracks: usize, first: usize, place: usize) -> Piece
-    requires le_tracks { 1 ≤ tracks }
-    requires place_bound { place ≤ 65536 }
+    requires some_track { 1 ≤ tracks }
+    requires place_small { place ≤ 65536 }
     ensures { result ≡ record { first = first; len = 1; track = track_of tracks place; column = column_of tracks place } }
 {
     let at = place_of(tracks, place);
@@ -55,10 +55,10 @@ pub(crate) fn write_pieces<S: Symbol, P: Price>(
 ) -> usize
     requires surveyed { Surveyed S.byte ground }
     requires counted { Counted counts.now (map S.byte ground.cells.now) }
-    requires in_bounds { 1 ≤ length want.now }
-    requires want_in_bounds { length want.now ≤ length list.old }
-    requires want_in_bounds_2 { sum_by (λ b. count_by (nat_eq b) (map S.byte ground.cells.now)) want.now ≤ length steps.now }
-    requires first_value { first ≡ offset_of (map S.byte ground.cells.now) want.now 0 }
+    requires some_note { 1 ≤ length want.now }
+    requires room_list { length want.now ≤ length list.old }
+    requires room_steps { sum_by (λ b. count_by (nat_eq b) (map S.byte ground.cells.now)) want.now ≤ length steps.now }
+    requires first_is { first ≡ offset_of (map S.byte ground.cells.now) want.now 0 }
     requires leading { Leading P.pricing P.meaning (map S.byte ground.cells.now) ground.tracks want.now steps.now start }
     ensures { (ask : Question) (c : ℤ) (prices : List (Option P)) (a : P) → Trail P.pricing P.meaning (map S.byte ground.entry.cells.now) ground.entry.tracks want.now steps.now start ask c prices a → Written P.pricing ask c (place_at ground.entry.tracks start) (P.meaning a) result list.old list.new }
 {

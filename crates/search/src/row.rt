@@ -38,7 +38,7 @@ pub(crate) fn price_at<S: Symbol, P: Price>(
     place: usize,
 ) -> Option<P>
     requires surveyed { Surveyed S.byte ground }
-    requires cells_in_bounds { row.offset + count_by (nat_eq row.byte) (map S.byte ground.cells.now) ≤ length prices.now }
+    requires room { row.offset + count_by (nat_eq row.byte) (map S.byte ground.cells.now) ≤ length prices.now }
     ensures { result ≡ value (map S.byte ground.entry.cells.now) row.byte row.offset prices.now place }
 {
     if !holds(ground, place, row.byte) {
@@ -58,10 +58,10 @@ fn take_in<S: Symbol, P: Price>(
     start: usize,
 ) -> usize
     requires surveyed { Surveyed S.byte ground }
-    requires cells_in_bounds { row.offset + count_by (nat_eq row.byte) (map S.byte ground.cells.now) ≤ length prices.now }
-    requires from_bound { from ≤ 65536 }
-    requires start_in_bounds { start ≤ length ground.cells.now }
-    requires rest_value { 0 < start → slice_index_or (map S.byte ground.cells.now) (start - 1) rest ≡ row.byte }
+    requires room { row.offset + count_by (nat_eq row.byte) (map S.byte ground.cells.now) ≤ length prices.now }
+    requires from_small { from ≤ 65536 }
+    requires start_within { start ≤ length ground.cells.now }
+    requires start_marked { 0 < start → slice_index_or (map S.byte ground.cells.now) (start - 1) rest ≡ row.byte }
     ensures low { result ≤ start }
     ensures holds { 0 < result → (slice_index_or (map S.byte ground.entry.cells.now) (result - 1) rest ≡ row.byte) × ((result - 1) / ground.entry.tracks < from) }
     ensures fed { (h : History P) → Fed P.pricing P.meaning (map S.byte ground.entry.cells.now) ground.entry.tracks row.byte (value (map S.byte ground.entry.cells.now) row.byte row.offset prices.now) window.old start h → from ≤ h.position → (h' : History P) × Fed P.pricing P.meaning (map S.byte ground.entry.cells.now) ground.entry.tracks row.byte (value (map S.byte ground.entry.cells.now) row.byte row.offset prices.now) window.new result h' × Onward from h h' }
@@ -100,12 +100,12 @@ pub(crate) fn fill_row<S: Symbol, P: Price>(
     entries: &mut [Entry<P>],
 )
     requires surveyed { Surveyed S.byte ground }
-    requires cells_bound { next.offset + count_by (nat_eq next.byte) (map S.byte ground.cells.now) ≤ row.offset }
-    requires cells_in_bounds { row.offset + count_by (nat_eq row.byte) (map S.byte ground.cells.now) ≤ length prices.old }
-    requires cells_in_bounds_2 { row.offset + count_by (nat_eq row.byte) (map S.byte ground.cells.now) ≤ length steps.old }
-    requires cells_in_bounds_3 { count_by (nat_eq next.byte) (map S.byte ground.cells.now) ≤ length entries.old }
-    requires mark { Mark (map S.byte ground.cells.now) row.byte (length (map S.byte ground.cells.now)) row.start }
-    requires mark_2 { Mark (map S.byte ground.cells.now) next.byte (length (map S.byte ground.cells.now)) next.start }
+    requires rows_apart { next.offset + count_by (nat_eq next.byte) (map S.byte ground.cells.now) ≤ row.offset }
+    requires room_prices { row.offset + count_by (nat_eq row.byte) (map S.byte ground.cells.now) ≤ length prices.old }
+    requires room_steps { row.offset + count_by (nat_eq row.byte) (map S.byte ground.cells.now) ≤ length steps.old }
+    requires room_entries { count_by (nat_eq next.byte) (map S.byte ground.cells.now) ≤ length entries.old }
+    requires marked { Mark (map S.byte ground.cells.now) row.byte (length (map S.byte ground.cells.now)) row.start }
+    requires next_marked { Mark (map S.byte ground.cells.now) next.byte (length (map S.byte ground.cells.now)) next.start }
     ensures prices_before { (k : ℕ) → k < row.offset → slice_index_or prices.new k None ≡ slice_index_or prices.old k None }
     ensures steps_before { (k : ℕ) → k < row.offset → slice_index steps.new k ≡ slice_index steps.old k }
     ensures right { (ask : Question) (c : ℤ) (i : ℕ) → NextNotes ask c i row.byte next.byte (map S.byte ground.entry.cells.now) ground.entry.tracks limit → LeastRow P.pricing P.meaning ask (map S.byte ground.entry.cells.now) ground.entry.tracks c (suc i) next.byte (value (map S.byte ground.entry.cells.now) next.byte next.offset prices.old) 0 → LeastRow P.pricing P.meaning ask (map S.byte ground.entry.cells.now) ground.entry.tracks c i row.byte (value (map S.byte ground.entry.cells.now) row.byte row.offset prices.new) 0 × LeadingRow P.pricing P.meaning ask (map S.byte ground.entry.cells.now) ground.entry.tracks row.byte (value (map S.byte ground.entry.cells.now) row.byte row.offset prices.new) (value (map S.byte ground.entry.cells.now) next.byte next.offset prices.old) (step_at (map S.byte ground.entry.cells.now) row.offset steps.new) 0 }
@@ -130,8 +130,8 @@ pub(crate) fn fill_row<S: Symbol, P: Price>(
 // Fills the row of the last note: it lies alone wherever it matches.
 pub(crate) fn fill_last<S: Symbol, P: Price>(ground: Ground<S>, row: Row, prices: &mut [Option<P>])
     requires surveyed { Surveyed S.byte ground }
-    requires cells_in_bounds { row.offset + count_by (nat_eq row.byte) (map S.byte ground.cells.now) ≤ length prices.old }
-    requires mark { Mark (map S.byte ground.cells.now) row.byte (length (map S.byte ground.cells.now)) row.start }
+    requires room { row.offset + count_by (nat_eq row.byte) (map S.byte ground.cells.now) ≤ length prices.old }
+    requires marked { Mark (map S.byte ground.cells.now) row.byte (length (map S.byte ground.cells.now)) row.start }
     ensures { (ask : Question) (c : ℤ) → Posed ask (map S.byte ground.entry.cells.now) ground.entry.tracks → Wants ask c (length ask.query) row.byte → LeastRow P.pricing P.meaning ask (map S.byte ground.entry.cells.now) ground.entry.tracks c (length ask.query) row.byte (value (map S.byte ground.entry.cells.now) row.byte row.offset prices.new) 0 }
 {
     let mut mark = row.start;

@@ -37,10 +37,10 @@ pub(crate) fn fill_rows<S: Symbol, P: Price>(
     requires surveyed { Surveyed S.byte ground }
     requires marks { Marks (map S.byte ground.cells.now) last.now (length (map S.byte ground.cells.now)) }
     requires counted { Counted counts.now (map S.byte ground.cells.now) }
-    requires in_bounds { 1 ≤ length want.now }
-    requires want_in_bounds { sum_by (λ b. count_by (nat_eq b) (map S.byte ground.cells.now)) want.now ≤ length prices.old }
-    requires want_in_bounds_2 { sum_by (λ b. count_by (nat_eq b) (map S.byte ground.cells.now)) want.now ≤ length steps.old }
-    requires want_in_bounds_3 { sum_by (λ b. count_by (nat_eq b) (map S.byte ground.cells.now)) want.now ≤ length entries.old }
+    requires some_note { 1 ≤ length want.now }
+    requires room_prices { sum_by (λ b. count_by (nat_eq b) (map S.byte ground.cells.now)) want.now ≤ length prices.old }
+    requires room_steps { sum_by (λ b. count_by (nat_eq b) (map S.byte ground.cells.now)) want.now ≤ length steps.old }
+    requires room_entries { sum_by (λ b. count_by (nat_eq b) (map S.byte ground.cells.now)) want.now ≤ length entries.old }
     ensures first { result ≡ record { S.byte = slice_index want.now 0; start = slice_index last.now (slice_index want.now 0); offset = offset_of (map S.byte ground.entry.cells.now) want.now 0 } }
     ensures rows { RowsRight P.pricing P.meaning (map S.byte ground.entry.cells.now) ground.entry.tracks limit want.now prices.new steps.new 0 }
 {

@@ -93,8 +93,8 @@ fn greatest_size<S: Symbol>(counts: &[u32; 256], mode: Mode, query: &[S]) -> usi
 
 // The workspace that a question with a query of 1 to 64 notes asks for.
 pub(crate) fn size_asked<S: Symbol>(cells: &[S], mode: Mode, query: &[S]) -> usize
-    requires cells_len_bound { length cells.now ≤ 65536 }
-    requires in_bounds { (1 ≤ length query.now) × (length query.now ≤ 64) }
+    requires few_cells { length cells.now ≤ 65536 }
+    requires lawful_query { (1 ≤ length query.now) × (length query.now ≤ 64) }
     ensures { result ≡ workspace S.kind mode (map S.byte cells.now) (map S.byte query.now) }
 {
     let counts = histogram(cells);

@@ -45,8 +45,8 @@ pub(crate) fn best_of<S: Symbol, P: Price>(
     prices: &[Option<P>],
 ) -> Option<Best<P>>
     requires surveyed { Surveyed S.byte ground }
-    requires cells_in_bounds { row.offset + count_by (nat_eq row.byte) (map S.byte ground.cells.now) ≤ length prices.now }
-    requires mark { Mark (map S.byte ground.cells.now) row.byte (length (map S.byte ground.cells.now)) row.start }
+    requires room { row.offset + count_by (nat_eq row.byte) (map S.byte ground.cells.now) ≤ length prices.now }
+    requires marked { Mark (map S.byte ground.cells.now) row.byte (length (map S.byte ground.cells.now)) row.start }
     ensures { Shallow P.pricing P.meaning (value (map S.byte ground.entry.cells.now) row.byte row.offset prices.now) → Topmost P.pricing P.meaning (value (map S.byte ground.entry.cells.now) row.byte row.offset prices.now) result 0 }
 {
     let mut best = None;
@@ -74,10 +74,10 @@ pub(crate) fn best_under<S: Symbol, P: Price>(
     requires surveyed { Surveyed S.byte ground }
     requires marks { Marks (map S.byte ground.cells.now) last.now (length (map S.byte ground.cells.now)) }
     requires counted { Counted counts.now (map S.byte ground.cells.now) }
-    requires in_bounds { 1 ≤ length want.now }
-    requires want_in_bounds { sum_by (λ b. count_by (nat_eq b) (map S.byte ground.cells.now)) want.now ≤ length prices.old }
-    requires want_in_bounds_2 { sum_by (λ b. count_by (nat_eq b) (map S.byte ground.cells.now)) want.now ≤ length steps.old }
-    requires want_in_bounds_3 { sum_by (λ b. count_by (nat_eq b) (map S.byte ground.cells.now)) want.now ≤ length entries.old }
+    requires some_note { 1 ≤ length want.now }
+    requires room_prices { sum_by (λ b. count_by (nat_eq b) (map S.byte ground.cells.now)) want.now ≤ length prices.old }
+    requires room_steps { sum_by (λ b. count_by (nat_eq b) (map S.byte ground.cells.now)) want.now ≤ length steps.old }
+    requires room_entries { sum_by (λ b. count_by (nat_eq b) (map S.byte ground.cells.now)) want.now ≤ length entries.old }
     ensures rows { RowsRight P.pricing P.meaning (map S.byte ground.entry.cells.now) ground.entry.tracks limit want.now prices.new steps.new 0 }
     ensures best { (ask : Question) (c : ℤ) → Posed ask (map S.byte ground.entry.cells.now) ground.entry.tracks → ask.limit ≡ limit → Wanted ask c want.now → BestUnder P.pricing P.meaning ask c ground.entry.tracks result }
 {

@@ -35,8 +35,8 @@ fn transposable_front<S: Symbol>(query: &[S], by: i32) -> usize
 
 // Writes the transposed notes, of which there is one for each, into the front of a list.
 fn put_transposed<S: Symbol>(query: &[S], by: i32, out: &mut [S])
-    requires query_in_bounds { length query.now ≤ length out.old }
-    requires query_in_bounds_2 { length query.now ≤ prefix_len (reaches S.kind by) (map S.byte query.now) }
+    requires room { length query.now ≤ length out.old }
+    requires reached { length query.now ≤ prefix_len (reaches S.kind by) (map S.byte query.now) }
     ensures moved { Transposed S.kind by (map S.byte query.now) (map S.byte (take (length query.now) out.new)) }
     ensures behind { drop (length query.now) out.new ≡ drop (length query.now) out.old }
 {

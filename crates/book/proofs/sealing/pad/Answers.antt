@@ -31,4 +31,4 @@ pub loop-i-preserved : goal.loop-i-preserved
 loop-i-preserved c = ap (λ o. set o c.loop-i.i 0) c.loop-i.invariant ∙ zeros_more c.args.out.now c.args.from c.loop-i.i c.loop-i.auto.i (omega arith)
 
 pub returns : goal.returns
-returns c = c.loop-i.invariant ∙ zeros_all c.args.out.now c.args.from c.loop-i.i c.requires.1 (omega arith)
+returns c = c.loop-i.invariant ∙ zeros_all c.args.out.now c.args.from c.loop-i.i c.requires.from_within (omega arith)

@@ -19,4 +19,4 @@ sealed d headed padded done l k n len long fits e1 e2 e3 =
 
 pub returns : goal.returns
 returns c =
-    sealed c.args.out.now c.put_header.new.out c.pad.new.out c.put_check.new.out c.args.letter c.args.kind c.args.number c.args.len c.requires.0 c.requires.1 c.put_header.ensures c.pad.ensures c.put_check.ensures
+    sealed c.args.out.now c.put_header.new.out c.pad.new.out c.put_check.new.out c.args.letter c.args.kind c.args.number c.args.len c.requires.whole_block c.requires.payload_fits c.put_header.ensures c.pad.ensures c.put_check.ensures

@@ -11,7 +11,7 @@ loop-i-preserved g c = λ h holds e f.
     let first = c.args.memory.now in
     let whole = holds.score.shaped.whole in
     let l : i < h.columns * h.tracks = omega (arith, c.loop-i-test.true) in
-    let fits : h.columns * h.tracks ≤ length first = omega (arith, c.requires.1) in
+    let fits : h.columns * h.tracks ≤ length first = omega (arith, c.requires.room) in
     elim c.match-symbol.branch [
       | in-Some w ↦
           let told : Told byte h (i / h.tracks + 1) (i % h.tracks + 1) (Some w.in-Some.symbol) = subst (λ t. Told byte h (i / t + 1) (i % t + 1) (Some w.in-Some.symbol)) (sym e) (w.in-Some.ensures h holds) in

@@ -12,8 +12,8 @@ pub write_pieces-count-requires : goal.write_pieces-count-requires
 write_pieces-count-requires g c =
     let bytes = map g.S.Symbol.byte c.args.ground.cells.now in
     let query = map g.S.Symbol.byte c.args.query.now in
-    let ready = c.requires.1 in
-    let granted = c.requires.0 in
+    let ready = c.requires.ready in
+    let granted = c.requires.granted in
     let want = c.settle-found.new.want in
     let prices = c.settle-found.new.prices in
     let steps = c.settle-found.new.steps in
@@ -28,10 +28,10 @@ pub place_of-requires : goal.place_of-requires
 place_of-requires g c =
     let bytes = map g.S.Symbol.byte c.args.ground.cells.now in
     let query = map g.S.Symbol.byte c.args.query.now in
-    let granted = c.requires.0 in
+    let granted = c.requires.granted in
     let settled = c.in-Some.ensures granted.ask granted.asked in
     let inside = settled_place bytes query g.S.Symbol.kind c.args.mode c.args.limit c.args.ground.tracks g.P.Price.pricing g.met.P.Price.lawful g.P.Price.meaning granted.ask granted.asked c.settle-found.new.want c.settle-found.new.prices c.settle-found.new.steps c.in-Some.best settled in
-    (granted.some_track, omega (arith, inside, c.requires.1.surveyed.few, length-map c.args.ground.cells.now g.S.Symbol.byte))
+    (granted.some_track, omega (arith, inside, c.requires.ready.surveyed.few, length-map c.args.ground.cells.now g.S.Symbol.byte))
 
 pub returns : goal.returns
 returns g c = λ ask asked.

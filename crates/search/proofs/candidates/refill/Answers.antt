@@ -31,9 +31,9 @@ fill_rows-row-requires g c =
     let by = c.args.choice.shift in
     let want = c.want_bytes.new.want in
     let n = length-map c.args.query.now g.S.Symbol.byte in
-    let as_long : length want ≡ length query = omega (arith, c.want_bytes.auto.want, c.requires.4) in
-    let fits : (size : ℕ) → Roomy k counts bytes query by size → sum_by (λ d. count_by (eqb d) bytes) want ≤ size = λ size roomy. omega (arith, roomy.fits, room k g.met.S.Symbol.lawful roomy.mode counts bytes query want roomy.byte by roomy.small c.requires.2 as_long roomy.candidate (λ i l. c.want_bytes.ensures.each c.if-not-want_bytes.false i (omega arith) ∙ ap Some same)) in
-    (c.requires.0, c.requires.1, c.requires.2, omega (arith, c.requires.3), fits (length c.args.prices.now) c.requires.5, fits (length c.args.steps.now) c.requires.6, fits (length c.args.entries.now) c.requires.7)
+    let as_long : length want ≡ length query = omega (arith, c.want_bytes.auto.want, c.requires.want_long) in
+    let fits : (size : ℕ) → Roomy k counts bytes query by size → sum_by (λ d. count_by (eqb d) bytes) want ≤ size = λ size roomy. omega (arith, roomy.fits, room k g.met.S.Symbol.lawful roomy.mode counts bytes query want roomy.byte by roomy.small c.requires.counted as_long roomy.candidate (λ i l. c.want_bytes.ensures.each c.if-not-want_bytes.false i (omega arith) ∙ ap Some same)) in
+    (c.requires.surveyed, c.requires.marks, c.requires.counted, omega (arith, c.requires.some_note), fits (length c.args.prices.now) c.requires.room_prices, fits (length c.args.steps.now) c.requires.room_steps, fits (length c.args.entries.now) c.requires.room_entries)
 
 pub price_at-requires : goal.price_at-requires
 price_at-requires g c =
@@ -46,10 +46,10 @@ price_at-requires g c =
     let by = c.args.choice.shift in
     let want = c.want_bytes.new.want in
     let n = length-map c.args.query.now g.S.Symbol.byte in
-    let as_long : length want ≡ length query = omega (arith, c.want_bytes.auto.want, c.requires.4) in
-    let roomy = c.requires.5 in
-    let fits = room k g.met.S.Symbol.lawful roomy.mode counts bytes query want roomy.byte by roomy.small c.requires.2 as_long roomy.candidate (λ i l. c.want_bytes.ensures.each c.if-not-want_bytes.false i (omega arith) ∙ ap Some same) in
-    (c.requires.0, subst (λ (r : Row). r.offset + count_by (eqb r.byte) bytes ≤ length c.fill_rows-row.new.prices) (sym c.fill_rows-row.ensures.first) (omega (arith, offset_all bytes want 0 (omega (arith, c.requires.3)), roomy.fits, c.fill_rows-row.auto.prices)))
+    let as_long : length want ≡ length query = omega (arith, c.want_bytes.auto.want, c.requires.want_long) in
+    let roomy = c.requires.room_prices in
+    let fits = room k g.met.S.Symbol.lawful roomy.mode counts bytes query want roomy.byte by roomy.small c.requires.counted as_long roomy.candidate (λ i l. c.want_bytes.ensures.each c.if-not-want_bytes.false i (omega arith) ∙ ap Some same) in
+    (c.requires.surveyed, subst (λ (r : Row). r.offset + count_by (eqb r.byte) bytes ≤ length c.fill_rows-row.new.prices) (sym c.fill_rows-row.ensures.first) (omega (arith, offset_all bytes want 0 (omega (arith, c.requires.some_note)), roomy.fits, c.fill_rows-row.auto.prices)))
 
 pub returns-in_default : goal.returns-in_default
 returns-in_default g c =
@@ -61,9 +61,9 @@ returns-in_default g c =
     let want = c.want_bytes.new.want in
     let sheet = c.fill_rows-row.new.prices in
     let n = length-map c.args.query.now g.S.Symbol.byte in
-    let as_long : length want ≡ length query = omega (arith, c.want_bytes.auto.want, c.requires.4) in
+    let as_long : length want ≡ length query = omega (arith, c.want_bytes.auto.want, c.requires.want_long) in
     let h =
-    refilled bytes query g.S.Symbol.kind mode c.args.limit c.args.ground.tracks g.P.Price.pricing g.met.P.Price.lawful g.P.Price.meaning ask asked c.args.choice best.stands want as_long (λ i l. c.want_bytes.ensures.each c.if-not-want_bytes.false i (omega arith) ∙ ap Some same) c.requires.0.one (omega (arith, c.requires.3)) sheet c.fill_rows-row.new.steps c.fill_rows-row.ensures.rows c.price_at.result
+    refilled bytes query g.S.Symbol.kind mode c.args.limit c.args.ground.tracks g.P.Price.pricing g.met.P.Price.lawful g.P.Price.meaning ask asked c.args.choice best.stands want as_long (λ i l. c.want_bytes.ensures.each c.if-not-want_bytes.false i (omega arith) ∙ ap Some same) c.requires.surveyed.one (omega (arith, c.requires.some_note)) sheet c.fill_rows-row.new.steps c.fill_rows-row.ensures.rows c.price_at.result
     (c.price_at.ensures ∙ ap (λ (r : Row). value bytes r.byte r.offset sheet c.args.choice.place) c.fill_rows-row.ensures.first) in
     let none : c.price_at.result ≡ None = c.in_default.is in
     let some = h.told_is in
@@ -80,9 +80,9 @@ returns g c =
     let want = c.want_bytes.new.want in
     let sheet = c.fill_rows-row.new.prices in
     let n = length-map c.args.query.now g.S.Symbol.byte in
-    let as_long : length want ≡ length query = omega (arith, c.want_bytes.auto.want, c.requires.4) in
+    let as_long : length want ≡ length query = omega (arith, c.want_bytes.auto.want, c.requires.want_long) in
     let h =
-    refilled bytes query g.S.Symbol.kind mode c.args.limit c.args.ground.tracks g.P.Price.pricing g.met.P.Price.lawful g.P.Price.meaning ask asked c.args.choice best.stands want as_long (λ i l. c.want_bytes.ensures.each c.if-not-want_bytes.false i (omega arith) ∙ ap Some same) c.requires.0.one (omega (arith, c.requires.3)) sheet c.fill_rows-row.new.steps c.fill_rows-row.ensures.rows c.price_at.result
+    refilled bytes query g.S.Symbol.kind mode c.args.limit c.args.ground.tracks g.P.Price.pricing g.met.P.Price.lawful g.P.Price.meaning ask asked c.args.choice best.stands want as_long (λ i l. c.want_bytes.ensures.each c.if-not-want_bytes.false i (omega arith) ∙ ap Some same) c.requires.surveyed.one (omega (arith, c.requires.some_note)) sheet c.fill_rows-row.new.steps c.fill_rows-row.ensures.rows c.price_at.result
     (c.price_at.ensures ∙ ap (λ (r : Row). value bytes r.byte r.offset sheet c.args.choice.place) c.fill_rows-row.ensures.first) in
     let m = g.P.Price.pricing in
     let meaning = g.P.Price.meaning in

@@ -10,63 +10,63 @@ use Rattle.search.proofs.row.fill_row.Goals as goal
 pub loop-mark-init : goal.loop-mark-init
 loop-mark-init g c =
     let xs = c.args.ground.cells.now in
-    filling_none g.P.Price.pricing g.met.P.Price.lawful g.P.Price.meaning (map g.S.Symbol.byte xs) c.args.ground.tracks c.requires.0.one c.args.row.byte c.args.row.offset c.args.next.byte c.args.next.offset c.args.limit c.requires.1 c.args.prices.now c.args.steps.now
-    c.new-window.result c.args.row.start c.args.next.start (length c.args.entries.now) (omega (arith, c.requires.0.few, length-map xs g.S.Symbol.byte)) c.requires.5 c.requires.6 c.requires.4 c.new-window.ensures
+    filling_none g.P.Price.pricing g.met.P.Price.lawful g.P.Price.meaning (map g.S.Symbol.byte xs) c.args.ground.tracks c.requires.surveyed.one c.args.row.byte c.args.row.offset c.args.next.byte c.args.next.offset c.args.limit c.requires.rows_apart c.args.prices.now c.args.steps.now
+    c.new-window.result c.args.row.start c.args.next.start (length c.args.entries.now) (omega (arith, c.requires.surveyed.few, length-map xs g.S.Symbol.byte)) c.requires.marked c.requires.next_marked c.requires.room_entries c.new-window.ensures
 
 pub overflow_add-from : goal.overflow_add-from
-overflow_add-from g c = omega (arith, c.loop-mark.invariant.mark_low, c.requires.0.few, length-map c.args.ground.cells.now g.S.Symbol.byte, div-le_self (c.loop-mark.mark - 1) c.args.ground.tracks)
+overflow_add-from g c = omega (arith, c.loop-mark.invariant.mark_low, c.requires.surveyed.few, length-map c.args.ground.cells.now g.S.Symbol.byte, div-le_self (c.loop-mark.mark - 1) c.args.ground.tracks)
 
 pub take_in-ahead-requires : goal.take_in-ahead-requires
 take_in-ahead-requires g c =
     let n = length-map c.args.ground.cells.now g.S.Symbol.byte in (
-      c.requires.0,
-      omega (arith, c.requires.1, c.requires.2, c.loop-mark.auto.prices),
-      omega (arith, c.loop-mark.invariant.mark_low, c.requires.0.few, n, div-le_self (c.loop-mark.mark - 1) c.args.ground.tracks),
+      c.requires.surveyed,
+      omega (arith, c.requires.rows_apart, c.requires.room_prices, c.loop-mark.auto.prices),
+      omega (arith, c.loop-mark.invariant.mark_low, c.requires.surveyed.few, n, div-le_self (c.loop-mark.mark - 1) c.args.ground.tracks),
       omega (arith, c.loop-mark.invariant.ahead_low, n),
       c.loop-mark.invariant.ahead_byte,
     )
 
 pub price_at-on-requires : goal.price_at-on-requires
-price_at-on-requires g c = (c.requires.0, omega (arith, c.requires.1, c.requires.2, c.loop-mark.auto.prices))
+price_at-on-requires g c = (c.requires.surveyed, omega (arith, c.requires.rows_apart, c.requires.room_prices, c.loop-mark.auto.prices))
 
 pub overflow_add-place : goal.overflow_add-place
-overflow_add-place g c = omega (arith, c.loop-mark.invariant.mark_low, c.requires.0.few, c.requires.0.narrow, length-map c.args.ground.cells.now g.S.Symbol.byte)
+overflow_add-place g c = omega (arith, c.loop-mark.invariant.mark_low, c.requires.surveyed.few, c.requires.surveyed.narrow, length-map c.args.ground.cells.now g.S.Symbol.byte)
 
 pub overflow_cast-from : goal.overflow_cast-from
-overflow_cast-from g c = omega (arith, c.loop-mark.invariant.mark_low, c.requires.0.few, length-map c.args.ground.cells.now g.S.Symbol.byte, div-le_self (c.loop-mark.mark - 1) c.args.ground.tracks)
+overflow_cast-from g c = omega (arith, c.loop-mark.invariant.mark_low, c.requires.surveyed.few, length-map c.args.ground.cells.now g.S.Symbol.byte, div-le_self (c.loop-mark.mark - 1) c.args.ground.tracks)
 
 pub offset_bounds-ground-place : goal.offset_bounds-ground-place
-offset_bounds-ground-place g c = omega (arith, c.loop-mark.invariant.mark_low, c.requires.0.few, length-map c.args.ground.cells.now g.S.Symbol.byte)
+offset_bounds-ground-place g c = omega (arith, c.loop-mark.invariant.mark_low, c.requires.surveyed.few, length-map c.args.ground.cells.now g.S.Symbol.byte)
 
 pub bounds-ground-place : goal.bounds-ground-place
-bounds-ground-place g c = omega (arith, c.loop-mark.invariant.mark_low, c.requires.0.long_after, length-map c.args.ground.cells.now g.S.Symbol.byte)
+bounds-ground-place g c = omega (arith, c.loop-mark.invariant.mark_low, c.requires.surveyed.long_after, length-map c.args.ground.cells.now g.S.Symbol.byte)
 
 pub overflow_add-at : goal.overflow_add-at
 overflow_add-at g c =
     let n = length-map c.args.ground.cells.now g.S.Symbol.byte in
-    omega (arith, c.well-formed, rank_in g.S.Symbol.byte c.args.ground c.requires.0 c.args.row.byte c.args.row.offset (length c.args.steps.now) (c.loop-mark.mark - 1) c.requires.3 (omega (arith, c.loop-mark.invariant.mark_low)) (c.loop-mark.invariant.mark_byte c.loop-mark-test.true))
+    omega (arith, c.well-formed, rank_in g.S.Symbol.byte c.args.ground c.requires.surveyed c.args.row.byte c.args.row.offset (length c.args.steps.now) (c.loop-mark.mark - 1) c.requires.room_steps (omega (arith, c.loop-mark.invariant.mark_low)) (c.loop-mark.invariant.mark_byte c.loop-mark-test.true))
 
 pub store-requires : goal.store-requires
 store-requires g c =
     let n = length-map c.args.ground.cells.now g.S.Symbol.byte in
     let kept : length c.loop-mark.prices ≡ length c.args.prices.now = c.loop-mark.auto.prices in
-    rank_in g.S.Symbol.byte c.args.ground c.requires.0 c.args.row.byte c.args.row.offset (length c.loop-mark.prices) (c.loop-mark.mark - 1) (omega (arith, c.requires.2)) (omega (arith, c.loop-mark.invariant.mark_low)) (c.loop-mark.invariant.mark_byte c.loop-mark-test.true)
+    rank_in g.S.Symbol.byte c.args.ground c.requires.surveyed c.args.row.byte c.args.row.offset (length c.loop-mark.prices) (c.loop-mark.mark - 1) (omega (arith, c.requires.room_prices)) (omega (arith, c.loop-mark.invariant.mark_low)) (c.loop-mark.invariant.mark_byte c.loop-mark-test.true)
 
 pub store-requires-in-loop-mark : goal.store-requires-in-loop-mark
 store-requires-in-loop-mark g c =
     let n = length-map c.args.ground.cells.now g.S.Symbol.byte in
     let kept : length c.loop-mark.steps ≡ length c.args.steps.now = c.loop-mark.auto.steps in
-    rank_in g.S.Symbol.byte c.args.ground c.requires.0 c.args.row.byte c.args.row.offset (length c.loop-mark.steps) (c.loop-mark.mark - 1) (omega (arith, c.requires.3)) (omega (arith, c.loop-mark.invariant.mark_low)) (c.loop-mark.invariant.mark_byte c.loop-mark-test.true)
+    rank_in g.S.Symbol.byte c.args.ground c.requires.surveyed c.args.row.byte c.args.row.offset (length c.loop-mark.steps) (c.loop-mark.mark - 1) (omega (arith, c.requires.room_steps)) (omega (arith, c.loop-mark.invariant.mark_low)) (c.loop-mark.invariant.mark_byte c.loop-mark-test.true)
 
 pub offset_bounds-ground-place-in-loop-mark : goal.offset_bounds-ground-place-in-loop-mark
-offset_bounds-ground-place-in-loop-mark g c = omega (arith, c.loop-mark.invariant.mark_low, c.requires.0.few, length-map c.args.ground.cells.now g.S.Symbol.byte)
+offset_bounds-ground-place-in-loop-mark g c = omega (arith, c.loop-mark.invariant.mark_low, c.requires.surveyed.few, length-map c.args.ground.cells.now g.S.Symbol.byte)
 
 pub bounds-ground-place-in-loop-mark : goal.bounds-ground-place-in-loop-mark
-bounds-ground-place-in-loop-mark g c = omega (arith, c.loop-mark.invariant.mark_low, c.requires.0.long_previous, length-map c.args.ground.cells.now g.S.Symbol.byte)
+bounds-ground-place-in-loop-mark g c = omega (arith, c.loop-mark.invariant.mark_low, c.requires.surveyed.long_previous, length-map c.args.ground.cells.now g.S.Symbol.byte)
 
 pub loop-mark-smaller : goal.loop-mark-smaller
 loop-mark-smaller g c =
-    let k = c.requires.0.linked (c.loop-mark.mark - 1) (omega (arith, c.loop-mark.invariant.mark_low, length-map c.args.ground.cells.now g.S.Symbol.byte)) in
+    let k = c.requires.surveyed.linked (c.loop-mark.mark - 1) (omega (arith, c.loop-mark.invariant.mark_low, length-map c.args.ground.cells.now g.S.Symbol.byte)) in
     omega (arith, k.low)
 
 pub loop-mark-preserved : goal.loop-mark-preserved
@@ -86,7 +86,7 @@ loop-mark-preserved g c =
     let prices = c.loop-mark.prices in
     let steps = c.loop-mark.steps in
     let n = length-map xs byte in
-    let one = c.requires.0.one in
+    let one = c.requires.surveyed.one in
     let q = c.loop-mark.mark - 1 in
     let within : q < length bytes = omega (arith, f.mark_low) in
     let inside : q < length xs = omega (arith, f.mark_low) in
@@ -95,8 +95,8 @@ loop-mark-preserved g c =
     let kept : length prices ≡ length c.args.prices.now = c.loop-mark.auto.prices in
     let kept-steps : length steps ≡ length c.args.steps.now = c.loop-mark.auto.steps in
     let w = get_or c.args.ground.previous.now q 0 in
-    let mark : Mark bytes b q w = subst (λ z. Mark bytes z q w) is (c.requires.0.linked q inside) in
-    let same = next_same m g.met.P.Price.lawful meaning bytes tracks one b offset b' offset' limit c.requires.1 c.args.prices.now c.args.steps.now prices f.same_prices in
+    let mark : Mark bytes b q w = subst (λ z. Mark bytes z q w) is (c.requires.surveyed.linked q inside) in
+    let same = next_same m g.met.P.Price.lawful meaning bytes tracks one b offset b' offset' limit c.requires.rows_apart c.args.prices.now c.args.steps.now prices f.same_prices in
     let out = c.take_in-ahead.ensures.fed f.history (subst (λ r. Fed m meaning bytes tracks b' r c.loop-mark.window c.loop-mark.ahead f.history) (sym same) f.fed) (f.position c.loop-mark-test.true) in
     let fed = subst (λ r. Fed m meaning bytes tracks b' r c.take_in-ahead.new.window c.take_in-ahead.result out.0) same out.1 in
     let over = c.hand_over-over.ensures out.0 fed.holds out.2.position in
@@ -104,12 +104,12 @@ loop-mark-preserved g c =
     let s = c.choose-price.result.1 in
     let ch = subst (λ z. Chosen m meaning z c.hand_over-over.result x s) (c.price_at-on.ensures ∙ (λ j. same j (q + tracks))) c.choose-price.ensures in
     let old = subst (Filled m meaning bytes tracks b offset b' offset' limit c.args.prices.now c.args.steps.now prices steps) next-mark f.filled in
-    let rank = ranked_at byte c.args.ground c.requires.0 b offset (length prices) q (omega (arith, c.requires.2)) inside is in
+    let rank = ranked_at byte c.args.ground c.requires.surveyed b offset (length prices) q (omega (arith, c.requires.room_prices)) inside is in
     let low : c.take_in-ahead.result ≤ length bytes = omega (arith, c.take_in-ahead.ensures.low, f.ahead_low) in
     subst (λ i. i)
     (λ j. Filling m meaning bytes tracks b offset b' offset' limit c.args.prices.now c.args.steps.now (sym (c.store.ensures ∙ ap (λ z. set prices (offset + z) x) rank) j) (sym (c.store-in-loop-mark.ensures ∙ ap (λ z. set steps (offset + z) s) rank) j) c.hand_over-over.new.window w c.take_in-ahead.result)
-    (filling_more m g.met.P.Price.lawful meaning bytes tracks one b offset b' offset' limit c.requires.1 c.args.prices.now c.args.steps.now
-    prices steps q within is (omega (arith, c.requires.2)) (omega (arith, c.requires.3)) x s
+    (filling_more m g.met.P.Price.lawful meaning bytes tracks one b offset b' offset' limit c.requires.rows_apart c.args.prices.now c.args.steps.now
+    prices steps q within is (omega (arith, c.requires.room_prices)) (omega (arith, c.requires.room_steps)) x s
     c.take_in-ahead.new.window c.hand_over-over.new.window c.take_in-ahead.result (λ l. (c.take_in-ahead.ensures.holds l).1) out.0 fed (out.2.limit ∙ f.limit_is)
     w mark c.hand_over-over.result over.0 over.1 ch low (λ l. (c.take_in-ahead.ensures.holds l).0) f.same_prices f.same_steps old)
 

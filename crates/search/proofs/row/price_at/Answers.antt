@@ -29,19 +29,19 @@ within : {S : Type 0} (byte : S → ℕ) (x : Ground S) → Surveyed byte x → 
 within byte x surveyed b offset n q room e = let h = held byte x.cells.now q b e in rank_in byte x surveyed b offset n q room h.0 h.1
 
 pub bounds-ground-place : goal.bounds-ground-place
-bounds-ground-place g c = omega (arith, c.requires.0.long_after, (held g.S.Symbol.byte c.args.ground.cells.now c.args.place c.args.row.byte c.if-not-holds.ensures).0)
+bounds-ground-place g c = omega (arith, c.requires.surveyed.long_after, (held g.S.Symbol.byte c.args.ground.cells.now c.args.place c.args.row.byte c.if-not-holds.ensures).0)
 
 pub offset_bounds-ground-place : goal.offset_bounds-ground-place
-offset_bounds-ground-place g c = omega (arith, c.requires.0.few, (held g.S.Symbol.byte c.args.ground.cells.now c.args.place c.args.row.byte c.if-not-holds.ensures).0)
+offset_bounds-ground-place g c = omega (arith, c.requires.surveyed.few, (held g.S.Symbol.byte c.args.ground.cells.now c.args.place c.args.row.byte c.if-not-holds.ensures).0)
 
 pub overflow_add-result : goal.overflow_add-result
-overflow_add-result g c = omega (arith, c.well-formed, within g.S.Symbol.byte c.args.ground c.requires.0 c.args.row.byte c.args.row.offset (length c.args.prices.now) c.args.place c.requires.1 c.if-not-holds.ensures)
+overflow_add-result g c = omega (arith, c.well-formed, within g.S.Symbol.byte c.args.ground c.requires.surveyed c.args.row.byte c.args.row.offset (length c.args.prices.now) c.args.place c.requires.room c.if-not-holds.ensures)
 
 pub offset_bounds-prices-row : goal.offset_bounds-prices-row
-offset_bounds-prices-row g c = omega (arith, within g.S.Symbol.byte c.args.ground c.requires.0 c.args.row.byte c.args.row.offset (length c.args.prices.now) c.args.place c.requires.1 c.if-not-holds.ensures)
+offset_bounds-prices-row g c = omega (arith, within g.S.Symbol.byte c.args.ground c.requires.surveyed c.args.row.byte c.args.row.offset (length c.args.prices.now) c.args.place c.requires.room c.if-not-holds.ensures)
 
 pub bounds-prices-row : goal.bounds-prices-row
-bounds-prices-row g c = within g.S.Symbol.byte c.args.ground c.requires.0 c.args.row.byte c.args.row.offset (length c.args.prices.now) c.args.place c.requires.1 c.if-not-holds.ensures
+bounds-prices-row g c = within g.S.Symbol.byte c.args.ground c.requires.surveyed c.args.row.byte c.args.row.offset (length c.args.prices.now) c.args.place c.requires.room c.if-not-holds.ensures
 
 pub returns : goal.returns
 returns g c =
@@ -50,8 +50,8 @@ returns g c =
     let ps = c.args.prices.now in
     let n = length-map xs byte in
     let h = held byte xs c.args.place c.args.row.byte c.if-not-holds.ensures in
-    let r = ranked_at byte c.args.ground c.requires.0 c.args.row.byte c.args.row.offset (length ps) c.args.place c.requires.1 h.0 h.1 in
-    let l = within byte c.args.ground c.requires.0 c.args.row.byte c.args.row.offset (length ps) c.args.place c.requires.1 c.if-not-holds.ensures in
+    let r = ranked_at byte c.args.ground c.requires.surveyed c.args.row.byte c.args.row.offset (length ps) c.args.place c.requires.room h.0 h.1 in
+    let l = within byte c.args.ground c.requires.surveyed c.args.row.byte c.args.row.offset (length ps) c.args.place c.requires.room c.if-not-holds.ensures in
     get_or_read ps (c.args.row.offset + get_or c.args.ground.after.now c.args.place 0) c.index-prices-row.result l c.index-prices-row.is None
     ∙ ap (λ z. get_or ps (c.args.row.offset + z) None) r
     ∙ sym (value_there (map byte xs) c.args.row.byte c.args.row.offset ps c.args.place (omega (arith, h.0)) h.1)

@@ -10,7 +10,7 @@ use Rattle.search.proofs.row.take_in.Goals.{in-Some, in_default}
 
 pub loop-ahead-smaller : goal.loop-ahead-smaller
 loop-ahead-smaller g c =
-    let m = c.requires.0.linked (c.loop-ahead.ahead - 1) (omega (arith, c.loop-ahead.invariant.0, c.requires.3)) in
+    let m = c.requires.surveyed.linked (c.loop-ahead.ahead - 1) (omega (arith, c.loop-ahead.invariant.0, c.requires.start_within)) in
     omega (arith, m.low)
 
 pub loop-ahead-preserved : goal.loop-ahead-preserved
@@ -25,10 +25,10 @@ loop-ahead-preserved g c =
     let matched = value_byte bytes b c.args.row.offset prices in
     let q = c.loop-ahead.ahead - 1 in
     let n = length-map xs byte in
-    let within : q < length xs = omega (arith, c.loop-ahead.invariant.0, c.requires.3) in
+    let within : q < length xs = omega (arith, c.loop-ahead.invariant.0, c.requires.start_within) in
     let w = get_or c.args.ground.previous.now q 0 in
-    let mark : Mark bytes b q w = subst (λ z. Mark bytes z q w) (c.loop-ahead.invariant.1 c.loop-ahead-test.true) (c.requires.0.linked q within) in
-    let one = c.requires.0.one in
+    let mark : Mark bytes b q w = subst (λ z. Mark bytes z q w) (c.loop-ahead.invariant.1 c.loop-ahead-test.true) (c.requires.surveyed.linked q within) in
+    let one = c.requires.surveyed.one in
     let next : c.loop-ahead.ahead ≡ q + 1 = omega arith in (
       omega (arith, mark.low, c.loop-ahead.invariant.0),
       mark.holds,

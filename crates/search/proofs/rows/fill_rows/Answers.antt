@@ -11,9 +11,9 @@ fill_last-requires g c =
     let bytes = map g.S.Symbol.byte c.args.ground.cells.now in
     let want = c.args.want.now in
     let k = length want - 1 in (
-      c.requires.0,
-      omega (arith, offset_all bytes want k (omega (arith, c.requires.3)), c.requires.4),
-      c.requires.1 (get_or want k 0) (omega (arith, c.type_inv.want k)),
+      c.requires.surveyed,
+      omega (arith, offset_all bytes want k (omega (arith, c.requires.some_note)), c.requires.room_prices),
+      c.requires.marks (get_or want k 0) (omega (arith, c.type_inv.want k)),
     )
 
 pub loop-i-init : goal.loop-i-init
@@ -25,9 +25,9 @@ loop-i-init g c =
     let want = c.args.want.now in
     let k = length want - 1 in
     let b = get_or want k 0 in
-    let end : k + 1 ≡ length want = omega (arith, c.requires.3) in
+    let end : k + 1 ≡ length want = omega (arith, c.requires.some_note) in
     let zero_is = offset_last bytes want k end in (
-      omega (arith, c.requires.3),
+      omega (arith, c.requires.some_note),
       (λ j. record { byte = b; start = get_or c.args.last.now b 0; offset = sym zero_is j }),
       rows_last bytes want m meaning tracks c.args.limit k c.fill_last.new.prices c.args.steps.now end
           (subst (λ z. (ask : Question) (e : ℤ) → Posed ask bytes tracks → Wants ask e (length ask.query) b → LeastRow m meaning ask bytes tracks e (length ask.query) b (value bytes b z c.fill_last.new.prices) 0) (sym zero_is) c.fill_last.ensures),
@@ -40,7 +40,7 @@ row_before-row-requires g c =
     let i = c.loop-i.i in
     let counts = c.args.counts.now in
     subst (λ (r : Row). r.offset + get_or counts r.byte 0 < 18446744073709551616) (sym c.loop-i.invariant.1)
-    (omega (arith, c.well-formed, offset_all bytes want i c.loop-i.invariant.0, c.requires.2 (get_or want i 0) (omega (arith, c.type_inv.want i)), c.requires.5))
+    (omega (arith, c.well-formed, offset_all bytes want i c.loop-i.invariant.0, c.requires.counted (get_or want i 0) (omega (arith, c.type_inv.want i)), c.requires.room_steps))
 
 pub fill_row-requires : goal.fill_row-requires
 fill_row-requires g c =
@@ -51,11 +51,11 @@ fill_row-requires g c =
     let i-is : c.loop-i.i ≡ k + 1 = omega arith in
     let more : k + 1 < length want = omega (arith, c.loop-i.invariant.0) in
     let next-is = c.loop-i.invariant.1 ∙ ap (standing bytes want last) i-is in
-    let row_is = standing_before bytes want last c.args.counts.now k c.requires.2 (λ j. omega (arith, c.type_inv.want j)) more c.loop-i.row c.row_before-row.result next-is c.row_before-row.ensures in
+    let row_is = standing_before bytes want last c.args.counts.now k c.requires.counted (λ j. omega (arith, c.type_inv.want j)) more c.loop-i.row c.row_before-row.result next-is c.row_before-row.ensures in
     let a =
     subst (λ i. i) (λ j. Asks bytes (length c.loop-i.prices) (length c.loop-i.steps) (length c.loop-i.entries) (sym row_is j) (sym next-is j))
-    (asked bytes want last (length c.loop-i.prices) (length c.loop-i.steps) (length c.loop-i.entries) k c.requires.1 (λ j. omega (arith, c.type_inv.want j)) more (omega (arith, c.requires.4, c.loop-i.auto.prices, c.fill_last.auto.prices)) (omega (arith, c.requires.5, c.loop-i.auto.steps)) (omega (arith, c.requires.6, c.loop-i.auto.entries))) in
-    (c.requires.0, a.0, a.1, a.2, a.3, a.4, a.5)
+    (asked bytes want last (length c.loop-i.prices) (length c.loop-i.steps) (length c.loop-i.entries) k c.requires.marks (λ j. omega (arith, c.type_inv.want j)) more (omega (arith, c.requires.room_prices, c.loop-i.auto.prices, c.fill_last.auto.prices)) (omega (arith, c.requires.room_steps, c.loop-i.auto.steps)) (omega (arith, c.requires.room_entries, c.loop-i.auto.entries))) in
+    (c.requires.surveyed, a.0, a.1, a.2, a.3, a.4, a.5)
 
 pub loop-i-preserved : goal.loop-i-preserved
 loop-i-preserved g c =
@@ -69,7 +69,7 @@ loop-i-preserved g c =
     let i-is : c.loop-i.i ≡ k + 1 = omega arith in
     let more : k + 1 < length want = omega (arith, c.loop-i.invariant.0) in
     let next-is = c.loop-i.invariant.1 ∙ ap (standing bytes want last) i-is in
-    let row_is = standing_before bytes want last c.args.counts.now k c.requires.2 (λ j. omega (arith, c.type_inv.want j)) more c.loop-i.row c.row_before-row.result next-is c.row_before-row.ensures in
+    let row_is = standing_before bytes want last c.args.counts.now k c.requires.counted (λ j. omega (arith, c.type_inv.want j)) more c.loop-i.row c.row_before-row.result next-is c.row_before-row.ensures in
     let f = c.fill_row.ensures in
     let given =
     subst (λ i. i) (λ j. Gives m meaning bytes tracks c.args.limit c.loop-i.prices c.fill_row.new.prices c.loop-i.steps c.fill_row.new.steps (row_is j) (next-is j))

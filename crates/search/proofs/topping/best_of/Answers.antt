@@ -10,17 +10,17 @@ use Rattle.search.proofs.topping.best_of.Goals as goal
 pub loop-mark-init : goal.loop-mark-init
 loop-mark-init g c =
     let bytes = map g.S.Symbol.byte c.args.ground.cells.now in
-    (c.requires.2.low, c.requires.2.holds, λ shallow q a l e. let s = value_some bytes c.args.row.byte c.args.row.offset c.args.prices.now q a e in c.requires.2.none q l s.0 s.1)
+    (c.requires.marked.low, c.requires.marked.holds, λ shallow q a l e. let s = value_some bytes c.args.row.byte c.args.row.offset c.args.prices.now q a e in c.requires.marked.none q l s.0 s.1)
 
 pub offset_bounds-ground-place : goal.offset_bounds-ground-place
-offset_bounds-ground-place g c = omega (arith, c.loop-mark.invariant.0, c.requires.0.few, length-map c.args.ground.cells.now g.S.Symbol.byte)
+offset_bounds-ground-place g c = omega (arith, c.loop-mark.invariant.0, c.requires.surveyed.few, length-map c.args.ground.cells.now g.S.Symbol.byte)
 
 pub bounds-ground-place : goal.bounds-ground-place
-bounds-ground-place g c = omega (arith, c.loop-mark.invariant.0, c.requires.0.long_previous, length-map c.args.ground.cells.now g.S.Symbol.byte)
+bounds-ground-place g c = omega (arith, c.loop-mark.invariant.0, c.requires.surveyed.long_previous, length-map c.args.ground.cells.now g.S.Symbol.byte)
 
 pub loop-mark-smaller : goal.loop-mark-smaller
 loop-mark-smaller g c =
-    let k = c.requires.0.linked (c.loop-mark.mark - 1) (omega (arith, c.loop-mark.invariant.0, length-map c.args.ground.cells.now g.S.Symbol.byte)) in
+    let k = c.requires.surveyed.linked (c.loop-mark.mark - 1) (omega (arith, c.loop-mark.invariant.0, length-map c.args.ground.cells.now g.S.Symbol.byte)) in
     omega (arith, k.low)
 
 pub loop-mark-preserved : goal.loop-mark-preserved
@@ -36,7 +36,7 @@ loop-mark-preserved g c =
     let q = c.loop-mark.mark - 1 in
     let inside : q < length xs = omega (arith, c.loop-mark.invariant.0) in
     let w = get_or c.args.ground.previous.now q 0 in
-    let mark : Mark bytes b q w = subst (λ z. Mark bytes z q w) (c.loop-mark.invariant.1 c.loop-mark-test.true) (c.requires.0.linked q inside) in
+    let mark : Mark bytes b q w = subst (λ z. Mark bytes z q w) (c.loop-mark.invariant.1 c.loop-mark-test.true) (c.requires.surveyed.linked q inside) in
     let next-mark : c.loop-mark.mark ≡ q + 1 = omega arith in (
       omega (arith, mark.low),
       mark.holds,

@@ -12,9 +12,9 @@ best_of-requires g c =
     let bytes = map g.S.Symbol.byte c.args.ground.cells.now in
     let want = c.args.want.now in
     let is = c.fill_rows-row.ensures.first in
-    let fits = subst (λ (r : Row). r.offset + count_by (eqb r.byte) bytes ≤ length c.fill_rows-row.new.prices) (sym is) (omega (arith, offset_all bytes want 0 c.requires.3, c.requires.4, c.fill_rows-row.auto.prices)) in
-    let marked = subst (λ (r : Row). Mark bytes r.byte (length bytes) r.start) (sym is) (c.requires.1 (get_or want 0 0) (omega (arith, c.type_inv.want 0))) in
-    (c.requires.0, fits, marked)
+    let fits = subst (λ (r : Row). r.offset + count_by (eqb r.byte) bytes ≤ length c.fill_rows-row.new.prices) (sym is) (omega (arith, offset_all bytes want 0 c.requires.some_note, c.requires.room_prices, c.fill_rows-row.auto.prices)) in
+    let marked = subst (λ (r : Row). Mark bytes r.byte (length bytes) r.start) (sym is) (c.requires.marks (get_or want 0 0) (omega (arith, c.type_inv.want 0))) in
+    (c.requires.surveyed, fits, marked)
 
 pub returns : goal.returns
 returns g c =
@@ -31,8 +31,8 @@ returns g c =
       rows = c.fill_rows-row.ensures.rows;
       best =
           λ ask k posed limit_is wanted.
-          let right = (c.fill_rows-row.ensures.rows ask k posed limit_is wanted 0 (omega arith) c.requires.3).least in
-          let wants = wanted.each 0 c.requires.3 in
-          best_under ask bytes tracks c.requires.0.one posed m g.met.P.Price.lawful meaning k (get_or want 0 0) first.offset sheet wants right c.best_of.result
-          (tops (row_shallow ask bytes tracks c.requires.0.one posed m g.met.P.Price.lawful meaning k (get_or want 0 0) first.offset sheet wants right));
+          let right = (c.fill_rows-row.ensures.rows ask k posed limit_is wanted 0 (omega arith) c.requires.some_note).least in
+          let wants = wanted.each 0 c.requires.some_note in
+          best_under ask bytes tracks c.requires.surveyed.one posed m g.met.P.Price.lawful meaning k (get_or want 0 0) first.offset sheet wants right c.best_of.result
+          (tops (row_shallow ask bytes tracks c.requires.surveyed.one posed m g.met.P.Price.lawful meaning k (get_or want 0 0) first.offset sheet wants right));
     }

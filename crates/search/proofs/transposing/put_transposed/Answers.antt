@@ -23,9 +23,9 @@ loop-i-preserved g c =
     elim c.match-transposed.branch [
       | in-Some w ↦
           subst (λ o. Moved byte k by xs c.args.out.now o (i + 1)) (sym w.out-is)
-          (moved_more byte k by xs c.args.out.now c.loop-i.out i x w.in-Some.moved c.loop-i-test.true (omega (arith, c.requires.0)) c.index-query-i.is w.in-Some.ensures c.loop-i.invariant)
+          (moved_more byte k by xs c.args.out.now c.loop-i.out i x w.in-Some.moved c.loop-i-test.true (omega (arith, c.requires.room)) c.index-query-i.is w.in-Some.ensures c.loop-i.invariant)
       | in_default w ↦
-          let b = reached_at k g.met.S.Symbol.lawful c.args.by (byte x) (ap (reaches k c.args.by) (sym (byte_at byte xs i x 0 c.loop-i-test.true c.index-query-i.is)) ∙ passes_before (reaches k c.args.by) (map byte xs) 0 i (omega (arith, c.requires.1))) in
+          let b = reached_at k g.met.S.Symbol.lawful c.args.by (byte x) (ap (reaches k c.args.by) (sym (byte_at byte xs i x 0 c.loop-i-test.true c.index-query-i.is)) ∙ passes_before (reaches k c.args.by) (map byte xs) 0 i (omega (arith, c.requires.reached))) in
           absurd (w.in_default.ensures b.0 (subst (λ z. k.interval (byte x) b.0 ≡ Some z) (sym e) b.1))
     ]
 
@@ -38,4 +38,4 @@ returns g c =
     let done : c.loop-i.i ≡ length xs = omega arith in
     let h = subst (λ n. Moved byte k c.args.by xs c.args.out.now c.loop-i.out n) done (subst (λ z. Moved byte k z xs c.args.out.now c.loop-i.out c.loop-i.i) e c.loop-i.invariant) in
     let kept : length c.loop-i.out ≡ length c.args.out.now = c.loop-i.auto.out in
-    record { moved = moved_all byte k c.args.by xs c.args.out.now c.loop-i.out (omega (arith, c.requires.0)) h; behind = h.behind }
+    record { moved = moved_all byte k c.args.by xs c.args.out.now c.loop-i.out (omega (arith, c.requires.room)) h; behind = h.behind }
