@@ -41,7 +41,7 @@ pub(crate) fn fill_rows<S: Symbol, P: Price>(
     requires room_prices { sum_by (λ b. count_by (nat_eq b) (map S.byte ground.cells.now)) want.now ≤ length prices.old }
     requires room_steps { sum_by (λ b. count_by (nat_eq b) (map S.byte ground.cells.now)) want.now ≤ length steps.old }
     requires room_entries { sum_by (λ b. count_by (nat_eq b) (map S.byte ground.cells.now)) want.now ≤ length entries.old }
-    ensures first { result ≡ record { S.byte = slice_index want.now 0; start = slice_index last.now (slice_index want.now 0); offset = offset_of (map S.byte ground.entry.cells.now) want.now 0 } }
+    ensures first { result ≡ record { byte = slice_index want.now 0; start = slice_index last.now (slice_index want.now 0); offset = offset_of (map S.byte ground.entry.cells.now) want.now 0 } }
     ensures rows { RowsRight P.pricing P.meaning (map S.byte ground.entry.cells.now) ground.entry.tracks limit want.now prices.new steps.new 0 }
 {
     let mut i = want.len() - 1;

@@ -18,9 +18,9 @@ answer_from-requires g c =
     let xs = c.args.cells.now in
     let n = length-map xs byte in
     let notes = length-map c.args.query.now byte in
-    let granted = c.requires in (
-      granted,
-      record {
+    let granted = c.requires in record {
+      granted = granted;
+      ready = record {
         surveyed =
             record {
               linked = c.link_places-last.ensures.linked;
@@ -38,5 +38,5 @@ answer_from-requires g c =
         room_prices = granted.room_prices;
         room_steps = granted.room_steps;
         room_entries = granted.room_window;
-      },
-    )
+      };
+    }

@@ -22,7 +22,7 @@ write_pieces-count-requires g c =
     let trail = settled_trail bytes query g.S.Symbol.kind c.args.mode c.args.limit c.args.ground.tracks g.P.Price.pricing g.met.P.Price.lawful g.P.Price.meaning granted.ask granted.asked want prices steps o settled in
     let room = settled_room bytes query g.S.Symbol.kind c.args.mode c.args.limit c.args.ground.tracks g.P.Price.pricing g.met.P.Price.lawful g.P.Price.meaning granted.ask granted.asked want prices steps o settled granted.some_track g.met.S.Symbol.lawful granted.some_note c.args.counts.now ready.counted in
     let n = length-map c.args.query.now g.S.Symbol.byte in
-    (ready.surveyed, ready.counted, omega (arith, c.settle-found.auto.want, ready.as_long, ready.some), omega (arith, c.settle-found.auto.want, ready.as_long, granted.room_list), omega (arith, c.settle-found.auto.steps, ready.room_steps, room), c.first_offset-offset.ensures bytes ready.counted, (granted.ask, o.shift, prices, o.price, trail))
+    record { surveyed = ready.surveyed; counted = ready.counted; some_note = omega (arith, c.settle-found.auto.want, ready.as_long, ready.some); room_list = omega (arith, c.settle-found.auto.want, ready.as_long, granted.room_list); room_steps = omega (arith, c.settle-found.auto.steps, ready.room_steps, room); first_is = c.first_offset-offset.ensures bytes ready.counted; leading = (granted.ask, o.shift, prices, o.price, trail) }
 
 pub place_of-requires : goal.place_of-requires
 place_of-requires g c =
@@ -31,7 +31,7 @@ place_of-requires g c =
     let granted = c.requires.granted in
     let settled = c.in-Some.ensures granted.ask granted.asked in
     let inside = settled_place bytes query g.S.Symbol.kind c.args.mode c.args.limit c.args.ground.tracks g.P.Price.pricing g.met.P.Price.lawful g.P.Price.meaning granted.ask granted.asked c.settle-found.new.want c.settle-found.new.prices c.settle-found.new.steps c.in-Some.best settled in
-    (granted.some_track, omega (arith, inside, c.requires.ready.surveyed.few, length-map c.args.ground.cells.now g.S.Symbol.byte))
+    record { some_track = granted.some_track; place_small = omega (arith, inside, c.requires.ready.surveyed.few, length-map c.args.ground.cells.now g.S.Symbol.byte) }
 
 pub returns : goal.returns
 returns g c = λ ask asked.

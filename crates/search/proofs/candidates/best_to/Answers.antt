@@ -65,7 +65,7 @@ best_under-requires g c =
     let n = length-map c.args.query.now g.S.Symbol.byte in
     let as_long : length want ≡ length query = omega (arith, c.want_bytes.auto.want, c.requires.as_long) in
     let fits : sum_by (λ d. count_by (eqb d) bytes) want ≤ workspace k c.args.mode bytes query = room k g.met.S.Symbol.lawful c.args.mode c.args.counts.now bytes query want c.args.b by (omega arith) c.requires.counted as_long candidate (λ i l. c.want_bytes.ensures.each c.if-not-want_bytes.false i (omega arith)) in
-    (c.requires.surveyed, c.requires.marks, c.requires.counted, omega (arith, c.requires.some), omega (arith, c.requires.room_prices), omega (arith, c.requires.room_steps), omega (arith, c.requires.room_entries))
+    record { surveyed = c.requires.surveyed; marks = c.requires.marks; counted = c.requires.counted; some_note = omega (arith, c.requires.some); room_prices = omega (arith, c.requires.room_prices); room_steps = omega (arith, c.requires.room_steps); room_entries = omega (arith, c.requires.room_entries) }
 
 pub returns-in_default-best_under : goal.returns-in_default-best_under
 returns-in_default-best_under g c =

@@ -33,7 +33,7 @@ fill_rows-row-requires g c =
     let n = length-map c.args.query.now g.S.Symbol.byte in
     let as_long : length want ≡ length query = omega (arith, c.want_bytes.auto.want, c.requires.want_long) in
     let fits : (size : ℕ) → Roomy k counts bytes query by size → sum_by (λ d. count_by (eqb d) bytes) want ≤ size = λ size roomy. omega (arith, roomy.fits, room k g.met.S.Symbol.lawful roomy.mode counts bytes query want roomy.byte by roomy.small c.requires.counted as_long roomy.candidate (λ i l. c.want_bytes.ensures.each c.if-not-want_bytes.false i (omega arith) ∙ ap Some same)) in
-    (c.requires.surveyed, c.requires.marks, c.requires.counted, omega (arith, c.requires.some_note), fits (length c.args.prices.now) c.requires.room_prices, fits (length c.args.steps.now) c.requires.room_steps, fits (length c.args.entries.now) c.requires.room_entries)
+    record { surveyed = c.requires.surveyed; marks = c.requires.marks; counted = c.requires.counted; some_note = omega (arith, c.requires.some_note); room_prices = fits (length c.args.prices.now) c.requires.room_prices; room_steps = fits (length c.args.steps.now) c.requires.room_steps; room_entries = fits (length c.args.entries.now) c.requires.room_entries }
 
 pub price_at-requires : goal.price_at-requires
 price_at-requires g c =
@@ -49,7 +49,7 @@ price_at-requires g c =
     let as_long : length want ≡ length query = omega (arith, c.want_bytes.auto.want, c.requires.want_long) in
     let roomy = c.requires.room_prices in
     let fits = room k g.met.S.Symbol.lawful roomy.mode counts bytes query want roomy.byte by roomy.small c.requires.counted as_long roomy.candidate (λ i l. c.want_bytes.ensures.each c.if-not-want_bytes.false i (omega arith) ∙ ap Some same) in
-    (c.requires.surveyed, subst (λ (r : Row). r.offset + count_by (eqb r.byte) bytes ≤ length c.fill_rows-row.new.prices) (sym c.fill_rows-row.ensures.first) (omega (arith, offset_all bytes want 0 (omega (arith, c.requires.some_note)), roomy.fits, c.fill_rows-row.auto.prices)))
+    record { surveyed = c.requires.surveyed; room = subst (λ (r : Row). r.offset + count_by (eqb r.byte) bytes ≤ length c.fill_rows-row.new.prices) (sym c.fill_rows-row.ensures.first) (omega (arith, offset_all bytes want 0 (omega (arith, c.requires.some_note)), roomy.fits, c.fill_rows-row.auto.prices)) }
 
 pub returns-in_default : goal.returns-in_default
 returns-in_default g c =

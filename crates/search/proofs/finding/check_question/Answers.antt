@@ -10,7 +10,7 @@ size_asked-size-requires g c =
     let query = c.args.query.now in
     let n = length-map query g.S.Symbol.byte in
     let h = listed (map g.S.Symbol.byte query) c.args.list c.in_ok-check_list.ensures in
-    (omega (arith, ap length c.symbols.ensures, few_symbols g.S.Symbol.kind g.S.Symbol.byte c.args.grid.now c.args.mode query), (omega (arith, h.0.some), omega (arith, h.0.few)))
+    record { few_cells = omega (arith, ap length c.symbols.ensures, few_symbols g.S.Symbol.kind g.S.Symbol.byte c.args.grid.now c.args.mode query); lawful_query = (omega (arith, h.0.some), omega (arith, h.0.few)) }
 
 pub returns-then-not-all_hold : goal.returns-then-not-all_hold
 returns-then-not-all_hold g c =

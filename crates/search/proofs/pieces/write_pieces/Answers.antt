@@ -9,7 +9,7 @@ lone-open-requires g c =
     let bytes = map g.S.Symbol.byte c.args.ground.cells.now in
     let n = length-map c.args.ground.cells.now g.S.Symbol.byte in
     let s = inside g.P.Price.pricing g.P.Price.meaning bytes c.args.ground.tracks c.args.want.now c.args.steps.now c.args.start t.0 t.1 t.2 t.3 c.requires.surveyed.one (omega (arith, c.requires.surveyed.few)) t.4 0 c.args.start t.3 t.4.stands in
-    (c.requires.surveyed.one, omega (arith, s.0, c.requires.surveyed.few))
+    record { some_track = c.requires.surveyed.one; place_small = omega (arith, s.0, c.requires.surveyed.few) }
 
 pub loop-note-init : goal.loop-note-init
 loop-note-init g c =
@@ -32,14 +32,14 @@ overflow_add-step g c =
     let t = c.requires.leading in
     let s = stays (c.loop-note.invariant.3 t.0 t.1 t.2 t.3 t.4) in
     let n = length-map c.args.ground.cells.now g.S.Symbol.byte in
-    omega (arith, c.well-formed, step_in g.S.Symbol.byte c.args.ground c.requires.surveyed c.args.want.now c.args.steps.now c.loop-note.note c.loop-note.place c.loop-note.offset c.loop-note.invariant.0 c.requires.room_steps c.loop-note.invariant.2 (omega (arith, s.0)) s.1)
+    omega (arith, c.well_formed, step_in g.S.Symbol.byte c.args.ground c.requires.surveyed c.args.want.now c.args.steps.now c.loop-note.note c.loop-note.place c.loop-note.offset c.loop-note.invariant.0 c.requires.room_steps c.loop-note.invariant.2 (omega (arith, s.0)) s.1)
 
 pub offset_bounds-steps-offset : goal.offset_bounds-steps-offset
 offset_bounds-steps-offset g c =
     let t = c.requires.leading in
     let s = stays (c.loop-note.invariant.3 t.0 t.1 t.2 t.3 t.4) in
     let n = length-map c.args.ground.cells.now g.S.Symbol.byte in
-    omega (arith, c.well-formed, step_in g.S.Symbol.byte c.args.ground c.requires.surveyed c.args.want.now c.args.steps.now c.loop-note.note c.loop-note.place c.loop-note.offset c.loop-note.invariant.0 c.requires.room_steps c.loop-note.invariant.2 (omega (arith, s.0)) s.1)
+    omega (arith, c.well_formed, step_in g.S.Symbol.byte c.args.ground c.requires.surveyed c.args.want.now c.args.steps.now c.loop-note.note c.loop-note.place c.loop-note.offset c.loop-note.invariant.0 c.requires.room_steps c.loop-note.invariant.2 (omega (arith, s.0)) s.1)
 
 pub bounds-steps-offset : goal.bounds-steps-offset
 bounds-steps-offset g c =
@@ -62,7 +62,7 @@ pub overflow_add-open : goal.overflow_add-open
 overflow_add-open g c =
     let t = c.requires.leading in
     let f = c.loop-note.invariant.3 t.0 t.1 t.2 t.3 t.4 in
-    omega (arith, c.well-formed, f.note_is)
+    omega (arith, c.well_formed, f.note_is)
 
 pub loop-note-preserved-then-step : goal.loop-note-preserved-then-step
 loop-note-preserved-then-step g c =
@@ -105,7 +105,7 @@ lone-open-requires-else-step g c =
     let s = get_or steps (c.loop-note.offset + get_or c.args.ground.after.now q 0) 0 in
     let is = step_is g.S.Symbol.byte c.args.ground c.requires.surveyed want steps k q c.loop-note.offset c.loop-note.invariant.0 c.requires.room_steps c.loop-note.invariant.2 (omega (arith, at.0)) at.1 in
     let within = over_in m meaning bytes tracks want steps c.args.start t.0 t.1 t.2 t.3 c.requires.surveyed.one (omega (arith, c.requires.surveyed.few)) t.4 k q c.loop-note.count c.loop-note.open c.args.list.now c.loop-note.list (c.loop-note.invariant.3 t.0 t.1 t.2 t.3 t.4) s c.loop-note-test.true is c.if-step.false in
-    (c.requires.surveyed.one, omega (arith, c.requires.surveyed.few))
+    record { some_track = c.requires.surveyed.one; place_small = omega (arith, c.requires.surveyed.few) }
 
 pub loop-note-preserved : goal.loop-note-preserved
 loop-note-preserved g c =

@@ -18,7 +18,7 @@ bounds-ground-place g c = omega (arith, c.loop-mark.invariant.0, c.requires.surv
 pub overflow_add-at : goal.overflow_add-at
 overflow_add-at g c =
     let n = length-map c.args.ground.cells.now g.S.Symbol.byte in
-    omega (arith, c.well-formed, rank_in g.S.Symbol.byte c.args.ground c.requires.surveyed c.args.row.byte c.args.row.offset (length c.args.prices.now) (c.loop-mark.mark - 1) c.requires.room (omega (arith, c.loop-mark.invariant.0)) (c.loop-mark.invariant.1 c.loop-mark-test.true))
+    omega (arith, c.well_formed, rank_in g.S.Symbol.byte c.args.ground c.requires.surveyed c.args.row.byte c.args.row.offset (length c.args.prices.now) (c.loop-mark.mark - 1) c.requires.room (omega (arith, c.loop-mark.invariant.0)) (c.loop-mark.invariant.1 c.loop-mark-test.true))
 
 pub store-requires : goal.store-requires
 store-requires g c =

@@ -18,16 +18,10 @@ overflow_add-from g c = omega (arith, c.loop-mark.invariant.mark_low, c.requires
 
 pub take_in-ahead-requires : goal.take_in-ahead-requires
 take_in-ahead-requires g c =
-    let n = length-map c.args.ground.cells.now g.S.Symbol.byte in (
-      c.requires.surveyed,
-      omega (arith, c.requires.rows_apart, c.requires.room_prices, c.loop-mark.auto.prices),
-      omega (arith, c.loop-mark.invariant.mark_low, c.requires.surveyed.few, n, div-le_self (c.loop-mark.mark - 1) c.args.ground.tracks),
-      omega (arith, c.loop-mark.invariant.ahead_low, n),
-      c.loop-mark.invariant.ahead_byte,
-    )
+    let n = length-map c.args.ground.cells.now g.S.Symbol.byte in record { surveyed = c.requires.surveyed; room = omega (arith, c.requires.rows_apart, c.requires.room_prices, c.loop-mark.auto.prices); from_small = omega (arith, c.loop-mark.invariant.mark_low, c.requires.surveyed.few, n, div-le_self (c.loop-mark.mark - 1) c.args.ground.tracks); start_within = omega (arith, c.loop-mark.invariant.ahead_low, n); start_marked = c.loop-mark.invariant.ahead_byte }
 
 pub price_at-on-requires : goal.price_at-on-requires
-price_at-on-requires g c = (c.requires.surveyed, omega (arith, c.requires.rows_apart, c.requires.room_prices, c.loop-mark.auto.prices))
+price_at-on-requires g c = record { surveyed = c.requires.surveyed; room = omega (arith, c.requires.rows_apart, c.requires.room_prices, c.loop-mark.auto.prices) }
 
 pub overflow_add-place : goal.overflow_add-place
 overflow_add-place g c = omega (arith, c.loop-mark.invariant.mark_low, c.requires.surveyed.few, c.requires.surveyed.narrow, length-map c.args.ground.cells.now g.S.Symbol.byte)
@@ -44,7 +38,7 @@ bounds-ground-place g c = omega (arith, c.loop-mark.invariant.mark_low, c.requir
 pub overflow_add-at : goal.overflow_add-at
 overflow_add-at g c =
     let n = length-map c.args.ground.cells.now g.S.Symbol.byte in
-    omega (arith, c.well-formed, rank_in g.S.Symbol.byte c.args.ground c.requires.surveyed c.args.row.byte c.args.row.offset (length c.args.steps.now) (c.loop-mark.mark - 1) c.requires.room_steps (omega (arith, c.loop-mark.invariant.mark_low)) (c.loop-mark.invariant.mark_byte c.loop-mark-test.true))
+    omega (arith, c.well_formed, rank_in g.S.Symbol.byte c.args.ground c.requires.surveyed c.args.row.byte c.args.row.offset (length c.args.steps.now) (c.loop-mark.mark - 1) c.requires.room_steps (omega (arith, c.loop-mark.invariant.mark_low)) (c.loop-mark.invariant.mark_byte c.loop-mark-test.true))
 
 pub store-requires : goal.store-requires
 store-requires g c =
@@ -118,4 +112,4 @@ returns g c =
     let f = c.loop-mark.invariant in
     let done : c.loop-mark.mark ≡ 0 = omega arith in
     let all = subst (λ z. Filled g.P.Price.pricing g.P.Price.meaning (map g.S.Symbol.byte c.args.ground.cells.now) c.args.ground.tracks c.args.row.byte c.args.row.offset c.args.next.byte c.args.next.offset c.args.limit c.args.prices.now c.args.steps.now c.loop-mark.prices c.loop-mark.steps z) done f.filled in
-    record { prices-before = f.same_prices; steps-before = f.same_steps; right = all.right }
+    record { prices_before = f.same_prices; steps_before = f.same_steps; right = all.right }

@@ -35,7 +35,7 @@ pub offset_bounds-ground-place : goal.offset_bounds-ground-place
 offset_bounds-ground-place g c = omega (arith, c.requires.surveyed.few, (held g.S.Symbol.byte c.args.ground.cells.now c.args.place c.args.row.byte c.if-not-holds.ensures).0)
 
 pub overflow_add-result : goal.overflow_add-result
-overflow_add-result g c = omega (arith, c.well-formed, within g.S.Symbol.byte c.args.ground c.requires.surveyed c.args.row.byte c.args.row.offset (length c.args.prices.now) c.args.place c.requires.room c.if-not-holds.ensures)
+overflow_add-result g c = omega (arith, c.well_formed, within g.S.Symbol.byte c.args.ground c.requires.surveyed c.args.row.byte c.args.row.offset (length c.args.prices.now) c.args.place c.requires.room c.if-not-holds.ensures)
 
 pub offset_bounds-prices-row : goal.offset_bounds-prices-row
 offset_bounds-prices-row g c = omega (arith, within g.S.Symbol.byte c.args.ground c.requires.surveyed c.args.row.byte c.args.row.offset (length c.args.prices.now) c.args.place c.requires.room c.if-not-holds.ensures)

@@ -10,11 +10,7 @@ pub fill_last-requires : goal.fill_last-requires
 fill_last-requires g c =
     let bytes = map g.S.Symbol.byte c.args.ground.cells.now in
     let want = c.args.want.now in
-    let k = length want - 1 in (
-      c.requires.surveyed,
-      omega (arith, offset_all bytes want k (omega (arith, c.requires.some_note)), c.requires.room_prices),
-      c.requires.marks (get_or want k 0) (omega (arith, c.type_inv.want k)),
-    )
+    let k = length want - 1 in record { surveyed = c.requires.surveyed; room = omega (arith, offset_all bytes want k (omega (arith, c.requires.some_note)), c.requires.room_prices); marked = c.requires.marks (get_or want k 0) (omega (arith, c.type_inv.want k)) }
 
 pub loop-i-init : goal.loop-i-init
 loop-i-init g c =
@@ -40,7 +36,7 @@ row_before-row-requires g c =
     let i = c.loop-i.i in
     let counts = c.args.counts.now in
     subst (λ (r : Row). r.offset + get_or counts r.byte 0 < 18446744073709551616) (sym c.loop-i.invariant.1)
-    (omega (arith, c.well-formed, offset_all bytes want i c.loop-i.invariant.0, c.requires.counted (get_or want i 0) (omega (arith, c.type_inv.want i)), c.requires.room_steps))
+    (omega (arith, c.well_formed, offset_all bytes want i c.loop-i.invariant.0, c.requires.counted (get_or want i 0) (omega (arith, c.type_inv.want i)), c.requires.room_steps))
 
 pub fill_row-requires : goal.fill_row-requires
 fill_row-requires g c =
@@ -55,7 +51,7 @@ fill_row-requires g c =
     let a =
     subst (λ i. i) (λ j. Asks bytes (length c.loop-i.prices) (length c.loop-i.steps) (length c.loop-i.entries) (sym row_is j) (sym next-is j))
     (asked bytes want last (length c.loop-i.prices) (length c.loop-i.steps) (length c.loop-i.entries) k c.requires.marks (λ j. omega (arith, c.type_inv.want j)) more (omega (arith, c.requires.room_prices, c.loop-i.auto.prices, c.fill_last.auto.prices)) (omega (arith, c.requires.room_steps, c.loop-i.auto.steps)) (omega (arith, c.requires.room_entries, c.loop-i.auto.entries))) in
-    (c.requires.surveyed, a.0, a.1, a.2, a.3, a.4, a.5)
+    record { surveyed = c.requires.surveyed; rows_apart = a.0; room_prices = a.1; room_steps = a.2; room_entries = a.3; marked = a.4; next_marked = a.5 }
 
 pub loop-i-preserved : goal.loop-i-preserved
 loop-i-preserved g c =

@@ -7,4 +7,4 @@ pub size_asked-requires : goal.size_asked-requires
 size_asked-requires g c =
     let n = length-map c.args.query.now g.S.Symbol.byte in
     let h = sound (map g.S.Symbol.byte c.args.query.now) c.in_ok-check_query.ensures in
-    (c.requires, (omega (arith, h.some), omega (arith, h.few)))
+    record { few_cells = c.requires; lawful_query = (omega (arith, h.some), omega (arith, h.few)) }

@@ -14,7 +14,7 @@ best_of-requires g c =
     let is = c.fill_rows-row.ensures.first in
     let fits = subst (λ (r : Row). r.offset + count_by (eqb r.byte) bytes ≤ length c.fill_rows-row.new.prices) (sym is) (omega (arith, offset_all bytes want 0 c.requires.some_note, c.requires.room_prices, c.fill_rows-row.auto.prices)) in
     let marked = subst (λ (r : Row). Mark bytes r.byte (length bytes) r.start) (sym is) (c.requires.marks (get_or want 0 0) (omega (arith, c.type_inv.want 0))) in
-    (c.requires.surveyed, fits, marked)
+    record { surveyed = c.requires.surveyed; room = fits; marked = marked }
 
 pub returns : goal.returns
 returns g c =

@@ -23,7 +23,7 @@ pub put_transposed-requires : goal.put_transposed-requires
 put_transposed-requires g c =
     let xs = c.args.query.now in
     let h = listed (map g.S.Symbol.byte xs) (length c.args.out.now) c.in_ok-check_list.ensures in
-    (omega (arith, h.1, length-map xs g.S.Symbol.byte), omega (arith, c.transposable_front-front.ensures))
+    record { room = omega (arith, h.1, length-map xs g.S.Symbol.byte); reached = omega (arith, c.transposable_front-front.ensures) }
 
 pub returns : goal.returns
 returns g c =
