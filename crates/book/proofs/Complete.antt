@@ -1,6 +1,6 @@
 -- The bytes of a score are not refused, and hold that score.
 use Rattle.std.proofs.Common.{◌≡◌, ℕ, zero, suc, ◌+◌, ◌-◌, ◌*◌, ◌/◌, ◌%◌, ◌<◌, ◌≤◌, min, Bool, true, false, cond, ◌&&◌, T, eqb, ltb, leb, ◌⊎◌, List, [], ◌∷◌, ◌++◌, length, get_or, take, drop, Some, None, Option, sym, refl, ap, ◌∙◌, subst, inl, inr, add-mul, arith}
-use Rattle.std.specs.List.{AllByRecursion as All}
+use Rattle.std.specs.List.{AllByRecursion}
 use Rattle.std.proofs.lemmas.List.{take_at, drop_at, take_all, drop_all, length-append, length-drop, length-take, take-append-drop, nil_from_length}
 use Rattle.std.proofs.ByRecursion.{All-take, All-drop}
 use Rattle.std.proofs.lemmas.Nat.{mul-le, div-add-mod'}
@@ -96,7 +96,7 @@ module _ (k : Kind) (s : Shape) (some : 1 ≤ s.tracks) (few : s.tracks ≤ 16) 
             absurd (omega (arith, m))
       ]
 
-  pub columns_read : (more n read : ℕ) (cells : List ℕ) → more ≡ blocks_for s.tracks (s.columns - read) → length cells ≡ (s.columns - read) * s.tracks → All (λ x. T (readable k x)) cells → Reads k s read n more cells
+  pub columns_read : (more n read : ℕ) (cells : List ℕ) → more ≡ blocks_for s.tracks (s.columns - read) → length cells ≡ (s.columns - read) * s.tracks → AllByRecursion (λ x. T (readable k x)) cells → Reads k s read n more cells
   columns_read zero n read cells e long all =
       let l = at_end read e in
       let z : s.columns - read ≡ 0 = omega arith in
@@ -123,7 +123,7 @@ module _ (k : Kind) (s : Shape) (some : 1 ≤ s.tracks) (few : s.tracks ≤ 16) 
       let turn : columns_refusal k s read n blk ≡ None =
       unless_kept (expected k n blk) _ _ (expected_is k columns_letter n p fits)
       (unless_kept (eqb (payload_length blk) (due s read * t)) _ _ (eq-eqb (payload_length blk) (due s read * t) (payload_length_is columns_letter k.number n p fits ∙ tk.0))
-      (symbols_none k Book (512 * n + 6) (payload blk) (subst (All (λ x. T (readable k x))) (sym (payload_is columns_letter k.number n p fits)) (All-take (λ x. T (readable k x)) w cells all)))) in
+      (symbols_none k Book (512 * n + 6) (payload blk) (subst (AllByRecursion (λ x. T (readable k x))) (sym (payload_is columns_letter k.number n p fits)) (All-take (λ x. T (readable k x)) w cells all)))) in
       record {
         none =
             (λ i. then (block_refusal n (first i)) (then (turn_refusal k (stage i) n (first i)) (blocks_refusal k (after (stage i) (first i)) (suc n) more (others i))))

@@ -1,6 +1,6 @@
 -- Bytes that no rule refuses are the bytes of the score that they hold.
 use Rattle.std.proofs.Common.{◌≡◌, ℕ, zero, suc, ◌+◌, ◌-◌, ◌*◌, ◌/◌, ◌%◌, ◌<◌, ◌≤◌, min, Bool, true, false, cond, ◌&&◌, T, eqb, ltb, leb, ◌⊎◌, List, [], ◌∷◌, ◌++◌, length, get_or, take, drop, Some, None, Option, sym, refl, ap, ◌∙◌, subst, inl, inr, add-mul, arith}
-use Rattle.std.specs.List.{AllByRecursion as All}
+use Rattle.std.specs.List.{AllByRecursion}
 use Rattle.std.proofs.lemmas.List.{append-nil, take_at, drop_at, take_all, drop_all, length-append, length-drop, length-take-le, take-append-drop, get_or-drop, get_or-take, get_or_past, length-take, nil_from_length, drop_more}
 use Rattle.std.proofs.ByRecursion.{All-append}
 use Rattle.std.proofs.lemmas.Nat.{mul-le, le-div}
@@ -51,7 +51,7 @@ pub record Written (k : Kind) (s : Shape) (read n more : ℕ) (rest : List ℕ) 
   pub again : rest ≡ column_blocks k.number (columns_a_block s.tracks * s.tracks) n more (payloads more rest)
   pub count : more ≡ blocks_for s.tracks (s.columns - read)
   pub long : length (payloads more rest) ≡ (s.columns - read) * s.tracks
-  pub symbols : All (λ b. T (readable k b)) (payloads more rest)
+  pub symbols : AllByRecursion (λ b. T (readable k b)) (payloads more rest)
 
 -- which stage is open
 open_full : (s : Shape) (read : ℕ) (b : Bool) → ltb read s.columns ≡ b → is_full (cond b (Columns s read) (Full s)) ≡ true → s.columns ≤ read

@@ -1,6 +1,6 @@
 -- What it means that no rule refuses.
 use Rattle.std.proofs.Common.{◌≡◌, ℕ, zero, suc, ◌+◌, ◌-◌, ◌*◌, ◌/◌, ◌%◌, ◌<◌, ◌≤◌, min, Bool, true, false, cond, T, leb, ◌⊎◌, List, [], ◌∷◌, ◌++◌, length, Some, None, Option, sym, refl, ap, ◌∙◌, inl, inr, suc-mul, arith}
-use Rattle.std.specs.List.{prefix_len, AllByRecursion as All}
+use Rattle.std.specs.List.{prefix_len, AllByRecursion}
 use Rattle.std.proofs.lemmas.Nat.{div-mul-add, div-add-mod', mod_below}
 use Rattle.std.proofs.lemmas.Bool.{cases_lt, leb-true, le-leb, cond-true}
 use Rattle.notation.specs.Kind.{Kind, readable}
@@ -28,7 +28,7 @@ leading_cons : (f : ℕ → Bool) (x : ℕ) (xs : List ℕ) (b : Bool) → f x �
 leading_cons f x xs true e l = (tt, omega arith)
 leading_cons f x xs false e l = absurd (omega arith)
 
-pub all_leading : (f : ℕ → Bool) (xs : List ℕ) → length xs ≤ prefix_len f xs → All (λ x. T (f x)) xs
+pub all_leading : (f : ℕ → Bool) (xs : List ℕ) → length xs ≤ prefix_len f xs → AllByRecursion (λ x. T (f x)) xs
 all_leading f [] l = tt
 all_leading f (x ∷ xs) l = let p = leading_cons f x xs (f x) refl l in (p.0, all_leading f xs p.1)
 
@@ -36,15 +36,15 @@ leading_true : (b : Bool) (m : ℕ) → T b → cond b (1 + m) 0 ≡ suc m
 leading_true true m h = omega arith
 leading_true false m h = absurd h
 
-pub leading_all : (f : ℕ → Bool) (xs : List ℕ) → All (λ x. T (f x)) xs → prefix_len f xs ≡ length xs
+pub leading_all : (f : ℕ → Bool) (xs : List ℕ) → AllByRecursion (λ x. T (f x)) xs → prefix_len f xs ≡ length xs
 leading_all f [] h = refl
 leading_all f (x ∷ xs) h = leading_true (f x) (prefix_len f xs) h.0 ∙ ap suc (leading_all f xs h.1)
 
 -- the kind reads all of some bytes exactly when no byte is refused
-pub symbols_read : (k : Kind) (layer : Layer) (from : ℕ) (xs : List ℕ) → symbols_refusal k layer from xs ≡ None → All (λ x. T (readable k x)) xs
+pub symbols_read : (k : Kind) (layer : Layer) (from : ℕ) (xs : List ℕ) → symbols_refusal k layer from xs ≡ None → AllByRecursion (λ x. T (readable k x)) xs
 symbols_read k layer from xs e = all_leading (readable k) xs (leb-true (length xs) (prefix_len (readable k) xs) (unless_none (leb (length xs) (prefix_len (readable k) xs)) _ None e).0)
 
-pub symbols_none : (k : Kind) (layer : Layer) (from : ℕ) (xs : List ℕ) → All (λ x. T (readable k x)) xs → symbols_refusal k layer from xs ≡ None
+pub symbols_none : (k : Kind) (layer : Layer) (from : ℕ) (xs : List ℕ) → AllByRecursion (λ x. T (readable k x)) xs → symbols_refusal k layer from xs ≡ None
 symbols_none k layer from xs h = unless_kept (leb (length xs) (prefix_len (readable k) xs)) _ None (le-leb (length xs) (prefix_len (readable k) xs) (omega (arith, leading_all (readable k) xs h))) refl
 
 -- so many things, at most p at a time: one time, and then what is left

@@ -1,6 +1,6 @@
 -- Scores as books hold them, and the bytes of a book.
 use Rattle.std.specs.Prelude.{◌≡◌, ℕ, zero, suc, ◌+◌, ◌-◌, ◌*◌, ◌/◌, ◌%◌, ◌≤◌, Bool, ◌&&◌, T, List, [], ◌∷◌, ◌++◌, map, length, take, drop, ◌==◌, nat_le}
-use Rattle.std.specs.List.{AllByRecursion as All}
+use Rattle.std.specs.List.{AllByRecursion}
 use Rattle.notation.specs.Kind.{Kind, readable}
 use Rattle.book.specs.Blocks.{block_bytes, two, title_letter, columns_letter}
 
@@ -28,7 +28,7 @@ spelled byte tracks columns symbols = record { tracks = tracks; columns = column
 -- a score of the kind: a shape of symbols that the kind reads
 pub record ScoreOf (k : Kind) (g : Grid) : Type 0 where
   pub shaped : Shaped g
-  pub symbols : All (λ b. T (readable k b)) g.cells
+  pub symbols : AllByRecursion (λ b. T (readable k b)) g.cells
 
 -- the whole columns that fit into one block
 abbrev pub columns_a_block : ℕ → ℕ

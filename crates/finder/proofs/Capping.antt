@@ -1,6 +1,6 @@
 -- Lists beyond 64 and sheets beyond 64 times 65,536 change no refusal.
 use Rattle.std.proofs.Common.{◌≡◌, ℕ, ◌+◌, ◌*◌, ◌≤◌, min, Bool, true, false, ◌&&◌, leb, List, [], ◌∷◌, length, ℤ, Some, None, Option, sym, refl, ap, ◌∙◌, arith}
-use Rattle.std.specs.List.{prefix_len, AllByRecursion as All}
+use Rattle.std.specs.List.{prefix_len, AllByRecursion}
 use Rattle.std.proofs.lemmas.Nat.{mul-le}
 use Rattle.std.proofs.lemmas.List.Sums.{count_by-le-length}
 use Rattle.std.proofs.ByRecursion.{sum_by_le}
@@ -27,7 +27,7 @@ same_test false false f g = refl
 pub cap_harmless : (want room cap : ℕ) → want ≤ cap → leb want (min room cap) ≡ leb want room
 cap_harmless want room cap enough = same_test _ _ (λ e. le-leb want room (omega (arith, leb-true want (min room cap) e))) (λ e. le-leb want (min room cap) (omega (arith, leb-true want room e)))
 
-all_le : (f : ℕ → ℕ) (m : ℕ) → ((x : ℕ) → f x ≤ m) → (xs : List ℕ) → All (λ x. f x ≤ m) xs
+all_le : (f : ℕ → ℕ) (m : ℕ) → ((x : ℕ) → f x ≤ m) → (xs : List ℕ) → AllByRecursion (λ x. f x ≤ m) xs
 all_le f m small [] = tt
 all_le f m small (x ∷ xs) = (small x, all_le f m small xs)
 

@@ -5,7 +5,7 @@ use Rattle.std.proofs.lemmas.Nat.{div-add-mod', div_below, mod_below, div-mul-ad
 use Rattle.std.proofs.lemmas.List.Edits.{paste_more, paste_all}
 use Rattle.std.proofs.lemmas.List.{length-map, length-take-le, map-set}
 use Rattle.std.proofs.lemmas.Bool.{cond-true, cond-false, eq-eqb, ne_eqb, le-leb, lt-leb, and_from, both_ways}
-use Rattle.std.specs.List.{AllByRecursion as All}
+use Rattle.std.specs.List.{AllByRecursion}
 use Rattle.notation.specs.Kind.{Kind, readable}
 use Rattle.book.specs.Books.{book_refusal, held}
 use Rattle.book.specs.Grids.{Grid, ScoreOf, in_grid}
@@ -84,7 +84,7 @@ pub when_true : (b : Bool) (P Q : Type 0) → b ≡ true → MatchBool b P Q →
 when_true true P Q e h = h
 when_true false P Q e h = absurd (both_ways false refl e)
 
-all_bytes : {S : Type 0} (byte : S → ℕ) (P : ℕ → Type 0) → ((s : S) → P (byte s)) → (n : ℕ) (xs : List S) → All P (take n (map byte xs))
+all_bytes : {S : Type 0} (byte : S → ℕ) (P : ℕ → Type 0) → ((s : S) → P (byte s)) → (n : ℕ) (xs : List S) → AllByRecursion P (take n (map byte xs))
 all_bytes byte P law zero xs = tt
 all_bytes byte P law (suc n) [] = tt
 all_bytes byte P law (suc n) (x ∷ xs) = (law x, all_bytes byte P law n xs)

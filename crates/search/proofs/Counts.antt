@@ -1,6 +1,6 @@
 -- Counting symbols by their bytes.
 use Rattle.std.proofs.Common.{◌≡◌, ℕ, zero, suc, ◌+◌, ◌<◌, ◌≤◌, max, Bool, true, false, cond, ◌||◌, T, eqb, ltb, ◌⊎◌, List, [], ◌∷◌, ◌++◌, map, length, get_or, take, drop, set, replicate, ℤ, Some, None, sum_by, count_by, Option, sym, refl, ap, ◌∙◌, subst, inl, inr, arith}
-use Rattle.std.specs.List.{AllByRecursion as All}
+use Rattle.std.specs.List.{AllByRecursion}
 use Rattle.std.proofs.lemmas.List.{length-map, length-set, length-take-le, get_or-replicate, get_or-set_same, get_or-set_other, take-map, take_all}
 use Rattle.std.proofs.lemmas.List.Sums.{sum_by-cons, sum_by_more, count_by_more_yes, count_by_more_no, count_by-le-length, sum_by-take-le}
 use Rattle.std.proofs.lemmas.Bool.{cases_eq, eq-eqb, ne_eqb, lt-ltb, le-ltb, ltb-true, ltb-false, eqb-true, cond-true, cond-false, cases_Bool, or_cases}
@@ -125,7 +125,7 @@ counted_le size b (x ∷ cells) l =
 
 -- the greatest over all bytes that are there is the greatest over the symbols
 
-greatest_le : (size : ℕ → ℕ) (all : List ℕ) (n : ℕ) (cells : List ℕ) → ((b : ℕ) → b < 256 → cond (ltb 0 (count_by (eqb b) all)) (size b) 0 ≤ n) → All (λ b. b < 256) cells → ((b : ℕ) → 0 < count_by (eqb b) cells → 0 < count_by (eqb b) all) → greatest size cells ≤ n
+greatest_le : (size : ℕ → ℕ) (all : List ℕ) (n : ℕ) (cells : List ℕ) → ((b : ℕ) → b < 256 → cond (ltb 0 (count_by (eqb b) all)) (size b) 0 ≤ n) → AllByRecursion (λ b. b < 256) cells → ((b : ℕ) → 0 < count_by (eqb b) cells → 0 < count_by (eqb b) all) → greatest size cells ≤ n
 greatest_le size all n [] h small sub = omega arith
 greatest_le size all n (x ∷ cells) h small sub =
     let one : ◌≡◌ {A = ℕ} (cond {A = ℕ} (eqb x x) 1 0) 1 = cond-true {A = ℕ} (eqb x x) 1 0 (eq-eqb x x refl) in
@@ -135,7 +135,7 @@ greatest_le size all n (x ∷ cells) h small sub =
     let more = greatest_le size all n cells h small.1 (λ b l. sub b (omega (arith, count_cons b x cells))) in
     omega arith
 
-pub greatest_top : (size : ℕ → ℕ) (cells : List ℕ) → All (λ b. b < 256) cells → top (λ b. cond (ltb 0 (count_by (eqb b) cells)) (size b) 0) 256 ≡ greatest size cells
+pub greatest_top : (size : ℕ → ℕ) (cells : List ℕ) → AllByRecursion (λ b. b < 256) cells → top (λ b. cond (ltb 0 (count_by (eqb b) cells)) (size b) 0) 256 ≡ greatest size cells
 greatest_top size cells small = at 256 refl
   where
     at : (n : ℕ) → n ≡ 256 → top (λ b. cond (ltb 0 (count_by (eqb b) cells)) (size b) 0) n ≡ greatest size cells
@@ -149,7 +149,7 @@ greatest_top size cells small = at 256 refl
         here b false q = omega arith
 
 -- all symbols' bytes are bytes
-pub bytes_small : {S : Type 0} (byte : S → ℕ) (k : Kind) → Lawful k → ((s : S) → T (readable k (byte s))) → (cells : List S) → All (λ b. b < 256) (map byte cells)
+pub bytes_small : {S : Type 0} (byte : S → ℕ) (k : Kind) → Lawful k → ((s : S) → T (readable k (byte s))) → (cells : List S) → AllByRecursion (λ b. b < 256) (map byte cells)
 bytes_small byte k laws h [] = tt
 bytes_small byte k laws h (x ∷ cells) = (byte_small k laws (byte x) (h x), bytes_small byte k laws h cells)
 
@@ -167,7 +167,7 @@ module _ (k : Kind) (mode : Mode) (cells query : List ℕ) where
 abbrev pub sized : Kind → Mode → List ℕ → List ℕ → ℕ → ℕ
 sized k mode cells query b = cond (ltb 0 (count_by (eqb b) cells)) (candidate_size k mode cells query (k.interval (note query 1) b)) 0
 
-pub workspace_top : (k : Kind) (mode : Mode) (cells query : List ℕ) → All (λ b. b < 256) cells → top (sized k mode cells query) 256 ≡ workspace k mode cells query
+pub workspace_top : (k : Kind) (mode : Mode) (cells query : List ℕ) → AllByRecursion (λ b. b < 256) cells → top (sized k mode cells query) 256 ≡ workspace k mode cells query
 unfolding workspace
 workspace_top k mode cells query small = greatest_top (λ b. candidate_size k mode cells query (k.interval (note query 1) b)) cells small
 

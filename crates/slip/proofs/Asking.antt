@@ -1,6 +1,6 @@
 -- Slips that no rule refuses are the bytes of the question that they ask, and the bytes of a question are not refused.
 use Rattle.std.proofs.Common.{◌≡◌, ℕ, suc, ◌+◌, ◌-◌, ◌*◌, ◌/◌, ◌%◌, ◌≤◌, true, ◌&&◌, T, eqb, leb, List, ◌∷◌, ◌++◌, length, get_or, take, drop, replicate, Some, None, Ok, Err, sym, refl, ap, ◌∙◌, subst, arith}
-use Rattle.std.specs.List.{AllByRecursion as All}
+use Rattle.std.specs.List.{AllByRecursion}
 use Rattle.std.proofs.lemmas.List.{drop_more, length-take-le, length-drop, take_at, append_assoc}
 use Rattle.std.proofs.lemmas.Bool.{and_parts, and_from, eqb-true, eq-eqb, leb-true}
 use Rattle.notation.specs.Kind.{Kind, readable}
@@ -99,7 +99,7 @@ module _ (k : Kind) (q : Inquiry) (lawful : InquiryOf k q) where
       and_from (eqb (payload_length b) (5 + length q.query)) (in_range (asked b).limit q.mode q.price (length q.query)) (eq-eqb (payload_length b) (5 + length q.query) long)
       (ap (λ x. in_range x.limit q.mode q.price (length q.query)) asked_is ∙ lawful.fields) in (
         slip_symbols k b (length_block slip_letter k.number 0 p fits) (block_none slip_letter k.number 0 0 p fits refl kind) refl (expected_is k slip_letter 0 p fits) fields
-            ∙ symbols_none k OfSlip 11 (asked b).query (subst (λ x. All (λ y. T (readable k y)) x.query) (sym asked_is) lawful.symbols),
+            ∙ symbols_none k OfSlip 11 (asked b).query (subst (λ x. AllByRecursion (λ y. T (readable k y)) x.query) (sym asked_is) lawful.symbols),
         asked_is,
       )
 

@@ -1,6 +1,6 @@
 -- Slips: one question as one block. Their bytes, and which bytes are refused.
 use Rattle.std.specs.Prelude.{◌≡◌, ℕ, ◌+◌, ◌*◌, Bool, true, ◌&&◌, T, List, ◌∷◌, ◌++◌, map, length, take, drop, Option, ◌==◌, nat_le, slice_index}
-use Rattle.std.specs.List.{AllByRecursion as All}
+use Rattle.std.specs.List.{AllByRecursion}
 use Rattle.notation.specs.Kind.{Kind, readable}
 use Rattle.book.specs.Refusals.{refusal, unless, then}
 use Rattle.book.specs.Blocks.{block_bytes, two, letter, payload_length, slip_letter, block_refusal}
@@ -26,7 +26,7 @@ in_range limit mode price notes = nat_le limit 4095 && nat_le mode 1 && (nat_le 
 -- a question of the kind: its fields in range, its query read by the kind
 pub record InquiryOf (k : Kind) (q : Inquiry) : Type 0 where
   pub fields : in_range q.limit q.mode q.price (length q.query) ≡ true
-  pub symbols : All (λ b. T (readable k b)) q.query
+  pub symbols : AllByRecursion (λ b. T (readable k b)) q.query
 
 -- the bytes of a question: one slip block numbered 0
 abbrev pub slip_payload : Inquiry → List ℕ

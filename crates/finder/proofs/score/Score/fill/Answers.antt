@@ -42,10 +42,11 @@ returns-then-columns-capacity g c =
 
 pub copy_symbols-requires : goal.copy_symbols-requires
 copy_symbols-requires g c =
-    let s = c.args.self.now in (
-      omega (arith, c.if-tracks-self.false, s.some_track),
-      omega (arith, mul-le c.columns-columns.result c.tracks-tracks.result s.capacity s.tracks c.if-columns-capacity.false (omega (arith, c.if-tracks-self.false)), s.room, c.deref_mut.ensures.len),
-    )
+    let s = c.args.self.now in
+    record {
+      some_track = omega (arith, c.if-tracks-self.false, s.some_track);
+      room = omega (arith, mul-le c.columns-columns.result c.tracks-tracks.result s.capacity s.tracks c.if-columns-capacity.false (omega (arith, c.if-tracks-self.false)), s.room, c.deref_mut.ensures.len);
+    }
 
 pub returns : goal.returns
 returns g c =
