@@ -1,5 +1,5 @@
 -- The three kinds of this repository, each settled once.
-use Rattle.std.specs.Prelude.{ℕ, Bool, true, false, cond, ◌&&◌, ◌||◌, ltb, ℤ, pos, ◌-ℤ◌, Some, None, Option, ◌==◌, nat_lt}
+use Rattle.std.specs.Prelude.{ℕ, Bool, cond, ◌&&◌, ◌||◌, ltb, ℤ, pos, ◌-ℤ◌, Some, None, Option, ◌==◌, nat_lt}
 use Rattle.std.specs.Int.{int_rem_euclid}
 use Rattle.notation.specs.declared.Following.TheVariants.{Sum, SumModulo12, Zero}
 use Rattle.notation.specs.Kind.{Kind}
