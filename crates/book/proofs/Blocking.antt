@@ -1,7 +1,7 @@
 -- Writing column blocks, one block more.
-use Rattle.std.proofs.Common.{◌≡◌, ℕ, zero, suc, ◌+◌, ◌-◌, ◌*◌, ◌<◌, ◌≤◌, min, List, [], ◌∷◌, ◌++◌, map, length, take, drop, sym, refl, ap, ◌∙◌, inl, inr, suc-mul, arith}
+use Rattle.std.proofs.Common.{◌≡◌, ℕ, zero, suc, ◌+◌, ◌-◌, ◌*◌, ◌≤◌, min, List, [], ◌∷◌, ◌++◌, length, take, drop, sym, ap, ◌∙◌, inl, inr, suc-mul, arith}
 use Rattle.std.proofs.lemmas.Bool.{cases_lt}
-use Rattle.std.proofs.lemmas.List.{append-nil, append_assoc, length-take-le, take_at, drop_at, drop-drop, length-append, length-drop, length-take, take-append-drop, take_all, drop_all, take-map, drop-map, take-take, take_rest}
+use Rattle.std.proofs.lemmas.List.{append-nil, append_assoc, length-take-le, take_at, drop_at, drop-drop, length-append, length-drop, length-take, take-append-drop, take_all, drop_all}
 use Rattle.notation.specs.Kind.{Kind}
 use Rattle.book.specs.Blocks.{block_bytes, two, title_letter, columns_letter}
 use borrow.Rule.Slice.PartMut.{put_mid}

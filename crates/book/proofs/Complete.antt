@@ -1,19 +1,18 @@
 -- The bytes of a score are not refused, and hold that score.
-use Rattle.std.proofs.Common.{◌≡◌, ℕ, zero, suc, ◌+◌, ◌-◌, ◌*◌, ◌/◌, ◌%◌, ◌<◌, ◌≤◌, min, Bool, true, false, cond, ◌&&◌, T, eqb, ltb, leb, ◌⊎◌, List, [], ◌∷◌, ◌++◌, length, get_or, take, drop, Some, None, Option, sym, refl, ap, ◌∙◌, subst, inl, inr, add-mul, arith}
+use Rattle.std.proofs.Common.{◌≡◌, ℕ, zero, suc, ◌+◌, ◌-◌, ◌*◌, ◌/◌, ◌%◌, ◌<◌, ◌≤◌, true, ◌&&◌, T, eqb, ltb, leb, List, ◌∷◌, ◌++◌, length, take, drop, None, sym, refl, ap, ◌∙◌, subst, inl, inr, add-mul, arith}
 use Rattle.std.specs.List.{AllByRecursion}
-use Rattle.std.proofs.lemmas.List.{take_at, drop_at, take_all, drop_all, length-append, length-drop, length-take, take-append-drop, nil_from_length}
+use Rattle.std.proofs.lemmas.List.{take_at, drop_at, length-append, length-drop, length-take, take-append-drop, nil_from_length}
 use Rattle.std.proofs.ByRecursion.{All-take, All-drop}
 use Rattle.std.proofs.lemmas.Nat.{mul-le, div-add-mod'}
 use Rattle.std.proofs.lemmas.Bool.{and_from, eq-eqb, le-leb, lt-ltb, le-ltb, cases_lt, cond-true, cond-false}
 use Rattle.notation.specs.Kind.{Kind, readable}
 use Rattle.notation.specs.Known.{known}
-use Rattle.book.specs.Refusals.{refusal, then}
-use Rattle.book.specs.Blocks.{block_bytes, two, letter, kind_number, number, payload_length, payload, title_letter, columns_letter, known_letter, padded, sound, block_refusal}
-use Rattle.book.specs.Grids.{Grid, Shaped, ScoreOf, columns_a_block, blocks_for, column_blocks, bytes_of}
-use Rattle.book.specs.Books.{expected, title_shape, in_shape, title_refusal, due, columns_refusal, symbols_refusal, turn_refusal, opened, after, is_full, blocks_refusal, whole_blocks, book_refusal, payloads, held}
-use Rattle.book.specs.declared.refusal.Layer.TheVariants.{File, Block, Book}
+use Rattle.book.specs.Refusals.{then}
+use Rattle.book.specs.Blocks.{block_bytes, two, number, payload_length, payload, title_letter, columns_letter, known_letter, padded, sound, block_refusal}
+use Rattle.book.specs.Grids.{Grid, ScoreOf, columns_a_block, blocks_for, column_blocks, bytes_of}
+use Rattle.book.specs.Books.{expected, title_shape, in_shape, title_refusal, due, columns_refusal, turn_refusal, opened, after, is_full, blocks_refusal, whole_blocks, book_refusal, payloads, held}
+use Rattle.book.specs.declared.refusal.Layer.TheVariants.{Book}
 use Rattle.book.specs.declared.stage.Shape.{Shape}
-use Rattle.book.specs.declared.stage.Stage.{Stage}
 use Rattle.book.specs.declared.stage.Stage.TheVariants.{Title, Columns, Full}
 use Rattle.book.proofs.Rules.{unless_kept, then_both, symbols_none, times_more, times_none}
 use Rattle.book.proofs.Fields.{length_block, number_is, payload_length_is, payload_is, padded_is, sound_is}

@@ -1,6 +1,6 @@
 -- A block's bytes and its fields: each gives the other.
-use Rattle.std.proofs.Common.{◌≡◌, ℕ, zero, suc, ◌+◌, ◌-◌, ◌*◌, ◌/◌, ◌%◌, ◌<◌, ◌≤◌, Bool, true, false, ◌&&◌, eqb, leb, List, [], ◌∷◌, ◌++◌, length, get_or, take, drop, replicate, sym, refl, ap, ◌∙◌, subst, arith}
-use Rattle.std.proofs.lemmas.List.{drop_more, drop-drop, length-take, length-drop, length-append, length-replicate, take-append-drop, append_assoc, take_at, drop_at, drop-take, take_all, drop_all, get_or-append_right, length-take-le, take-take, append-nil}
+use Rattle.std.proofs.Common.{◌≡◌, ℕ, zero, suc, ◌+◌, ◌-◌, ◌*◌, ◌/◌, ◌%◌, ◌<◌, ◌≤◌, true, eqb, leb, List, [], ◌∷◌, ◌++◌, length, get_or, take, drop, replicate, sym, refl, ap, ◌∙◌, arith}
+use Rattle.std.proofs.lemmas.List.{drop_more, drop-drop, length-take, length-drop, length-append, length-replicate, take-append-drop, append_assoc, take_at, drop_at, drop-take, drop_all, get_or-append_right, length-take-le, take-take}
 use Rattle.std.proofs.lemmas.Bool.{and_parts, eqb-true, leb-true, eq-eqb, le-leb, and_from}
 use Rattle.book.specs.Blocks.{weighted, two, four, body, block_bytes, letter, kind_number, number, payload_length, payload, padding, stored_check, blank, padded, sound}
 

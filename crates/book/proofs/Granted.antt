@@ -1,5 +1,5 @@
 -- Bytes that no rule refuses are the bytes of the score that they hold.
-use Rattle.std.proofs.Common.{◌≡◌, ℕ, zero, suc, ◌+◌, ◌-◌, ◌*◌, ◌/◌, ◌%◌, ◌<◌, ◌≤◌, min, Bool, true, false, cond, ◌&&◌, T, eqb, ltb, leb, ◌⊎◌, List, [], ◌∷◌, ◌++◌, length, get_or, take, drop, Some, None, Option, sym, refl, ap, ◌∙◌, subst, inl, inr, add-mul, arith}
+use Rattle.std.proofs.Common.{◌≡◌, ℕ, zero, suc, ◌+◌, ◌-◌, ◌*◌, ◌/◌, ◌%◌, ◌<◌, ◌≤◌, Bool, true, false, cond, ◌&&◌, T, eqb, ltb, leb, ◌⊎◌, List, ◌∷◌, ◌++◌, length, get_or, take, drop, None, sym, refl, ap, ◌∙◌, subst, inl, inr, add-mul, arith}
 use Rattle.std.specs.List.{AllByRecursion}
 use Rattle.std.proofs.lemmas.List.{append-nil, take_at, drop_at, take_all, drop_all, length-append, length-drop, length-take-le, take-append-drop, get_or-drop, get_or-take, get_or_past, length-take, nil_from_length, drop_more}
 use Rattle.std.proofs.ByRecursion.{All-append}
@@ -7,11 +7,10 @@ use Rattle.std.proofs.lemmas.Nat.{mul-le, le-div}
 use Rattle.std.proofs.lemmas.Bool.{and_parts, eqb-true, leb-true, ltb-true, ltb-false, cases_lt}
 use Rattle.notation.specs.Kind.{Kind, readable}
 use Rattle.notation.specs.Known.{known}
-use Rattle.book.specs.Refusals.{refusal, then}
 use Rattle.book.specs.Blocks.{block_bytes, two, letter, kind_number, number, payload_length, payload, title_letter, columns_letter, known_letter, padded, sound, block_refusal}
-use Rattle.book.specs.Grids.{Grid, Shaped, ScoreOf, columns_a_block, blocks_for, column_blocks, bytes_of}
-use Rattle.book.specs.Books.{expected, title_shape, in_shape, title_refusal, due, columns_refusal, symbols_refusal, turn_refusal, opened, after, is_full, blocks_refusal, whole_blocks, book_refusal, payloads, held}
-use Rattle.book.specs.declared.refusal.Layer.TheVariants.{File, Block, Book}
+use Rattle.book.specs.Grids.{ScoreOf, columns_a_block, blocks_for, column_blocks, bytes_of}
+use Rattle.book.specs.Books.{expected, title_shape, in_shape, title_refusal, due, columns_refusal, turn_refusal, opened, after, is_full, blocks_refusal, whole_blocks, book_refusal, payloads, held}
+use Rattle.book.specs.declared.refusal.Layer.TheVariants.{Book}
 use Rattle.book.specs.declared.stage.Shape.{Shape}
 use Rattle.book.specs.declared.stage.Stage.TheVariants.{Title, Columns, Full}
 use Rattle.book.proofs.Rules.{unless_none, then_parts, symbols_read, times_more, times_none}

@@ -1,5 +1,5 @@
 -- The check's sum, one byte more.
-use Rattle.std.proofs.Common.{◌≡◌, ℕ, zero, suc, ◌+◌, ◌*◌, ◌<◌, ◌≤◌, List, [], ◌∷◌, ◌++◌, length, get_or, take, sym, refl, ap, ◌∙◌, add-mul, mul-add, arith}
+use Rattle.std.proofs.Common.{◌≡◌, ℕ, zero, suc, ◌+◌, ◌*◌, ◌<◌, List, [], ◌∷◌, length, get_or, take, ap, arith}
 use Rattle.book.specs.Blocks.{weighted}
 
 weighted_suc : (from : ℕ) (bs : List ℕ) (i : ℕ) → i < length bs → weighted from (take (suc i) bs) ≡ weighted from (take i bs) + (from + i) * get_or bs i 0

@@ -1,10 +1,10 @@
 -- The reading of a book, one block further.
-use Rattle.std.proofs.Common.{◌≡◌, ℕ, suc, ◌+◌, ◌-◌, ◌*◌, ◌<◌, Bool, true, false, cond, ltb, List, get_or, take, drop, Some, None, Option, sym, refl, ap, ◌∙◌, subst, arith}
+use Rattle.std.proofs.Common.{◌≡◌, ℕ, suc, ◌+◌, ◌-◌, ◌*◌, ◌<◌, Bool, true, false, cond, ltb, List, take, drop, Some, None, Option, sym, refl, ap, ◌∙◌, subst, arith}
 use Rattle.std.proofs.lemmas.List.{drop-drop, get_or-take}
 use Rattle.notation.specs.Kind.{Kind}
 use Rattle.book.specs.Refusals.{then}
 use Rattle.book.specs.Blocks.{block_refusal}
-use Rattle.book.specs.Books.{blocks_refusal, turn_refusal, after, opened, title_shape}
+use Rattle.book.specs.Books.{blocks_refusal, turn_refusal, after, title_shape}
 use Rattle.book.specs.declared.refusal.Refusal.{Refusal}
 use Rattle.book.specs.declared.stage.Shape.{Shape}
 use Rattle.book.specs.declared.stage.Stage.{Stage}

@@ -1,5 +1,5 @@
 -- What the calls on a score and its terms come to: filling from a book, setting the terms, and a question.
-use Rattle.std.proofs.Common.{◌≡◌, ℕ, zero, suc, ◌-◌, ◌*◌, ◌/◌, ◌<◌, ◌≤◌, Bool, true, false, cond, ◌&&◌, eqb, leb, ◌⊎◌, List, [], ◌∷◌, length, get_or, take, drop, Some, None, vec_items, MatchBool, Option, sym, refl, ap, ◌∙◌, subst, inl, inr, arith, eqb-true, le-leb, leb-true, MatchOption}
+use Rattle.std.proofs.Common.{◌≡◌, ℕ, zero, suc, ◌-◌, ◌*◌, ◌/◌, ◌<◌, ◌≤◌, Bool, true, ◌&&◌, eqb, leb, ◌⊎◌, List, [], ◌∷◌, get_or, take, drop, Some, None, vec_items, Option, sym, refl, ap, ◌∙◌, subst, inl, inr, arith, eqb-true, le-leb, leb-true, MatchOption}
 use Rattle.std.proofs.lemmas.List.{take_at}
 use Rattle.std.proofs.lemmas.Bool.{cond-true, and_parts, cases_eq}
 use Rattle.notation.specs.Kind.{Kind, Lawful as KindLaws}
@@ -28,12 +28,10 @@ use Rattle.splitting.proofs.Minimum.{fewest_pieces}
 use Rattle.search.specs.Questions.{question_refusal}
 use Rattle.finder.specs.Edits.{book_columns}
 use Rattle.finder.specs.Ledger.{Ledger, Command, fills, sets, asks, at_first, asked, leads_to, ledger_before, by_rule, granted}
-use Rattle.finder.specs.Limits.{limit_refusal}
-use Rattle.finder.specs.Outcomes.{Prices, AnsweredAt, Gives, RightOutcome, blanks}
+use Rattle.finder.specs.Outcomes.{Prices, AnsweredAt, RightOutcome, blanks}
 use Rattle.finder.specs.Promise.{Performed}
 use Rattle.finder.specs.ScoreRules.{in_score, fill_refusal}
 use Rattle.finder.specs.Trying.{prices_of}
-use Rattle.finder.specs.declared.call.Room.{Room}
 use Rattle.finder.specs.declared.outcome.Outcome.{Outcome}
 use Rattle.finder.specs.declared.outcome.Outcome.TheVariants.{NoCall, Refused, Done, Size, Transposed, First, Second}
 use Rattle.finder.specs.declared.outcome.Performance.{Performance}

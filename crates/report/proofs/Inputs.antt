@@ -1,12 +1,12 @@
 -- The report on an input by its parts.
-use Rattle.std.proofs.Common.{◌≡◌, ℕ, ◌-◌, ◌≤◌, min, Bool, true, false, ◌&&◌, leb, List, length, take, drop, Some, None, Option, sym, ap, ◌∙◌, subst, arith, MatchOption}
+use Rattle.std.proofs.Common.{◌≡◌, ℕ, min, Bool, true, List, length, Option, sym, subst, MatchOption}
 use Rattle.notation.specs.Kind.{Kind}
 use Rattle.book.specs.Describing.{named_kind, refused_line}
 use Rattle.book.specs.Refusals.{refusal, unless}
 use Rattle.slip.specs.Slips.{asked}
 use Rattle.book.specs.declared.refusal.Layer.TheVariants.{File}
 use Rattle.book.specs.declared.refusal.Refusal.{Refusal}
-use Rattle.report.specs.Reports.{whole_blocks, book_part, slip_part, named_tracks, lawful_tracks, question_of, parts_refusal, AnswerTold, PartsTold, Acceptable}
+use Rattle.report.specs.Reports.{whole_blocks, book_part, slip_part, named_tracks, question_of, parts_refusal, AnswerTold, PartsTold, Acceptable}
 
 under : (b : Bool) (r : Refusal) (rule : Option Refusal) (A : Type 0) (text : List ℕ) → b ≡ true → MatchOption rule A (λ x. text ≡ refused_line x) → MatchOption (unless b r rule) A (λ x. text ≡ refused_line x)
 under b r rule A text e h = subst (λ (x : Bool). MatchOption (unless x r rule) A (λ y. text ≡ refused_line y)) (sym e) h

@@ -1,7 +1,6 @@
 -- The best of a row, one place further.
-use Rattle.std.proofs.Common.{◌≡◌, ℕ, ◌+◌, ◌-◌, ◌<◌, ◌≤◌, Bool, true, false, T, ◌⊎◌, List, length, get_or, Some, None, Option, sym, refl, ap, ◌∙◌, subst, inl, inr, arith}
+use Rattle.std.proofs.Common.{◌≡◌, ℕ, ◌+◌, ◌≤◌, T, List, Some, None, Option, sym, subst, inl, inr, arith}
 use Rattle.std.proofs.lemmas.Bool.{cases_eq, cases_lt}
-use Rattle.notation.specs.Kind.{rest}
 use Rattle.price.specs.Pricing.{Pricing, Lawful}
 use Rattle.splitting.proofs.Least.{self}
 use Rattle.search.specs.Topmost.{Shallow, Tops, Topmost}

@@ -1,8 +1,8 @@
 -- Columns in memory: the symbol at a place.
-use Rattle.std.proofs.Common.{◌≡◌, ℕ, zero, suc, ◌+◌, ◌-◌, ◌*◌, ◌<◌, ◌≤◌, List, [], ◌∷◌, ◌++◌, map, length, get_or, take, drop, sym, refl, ap, ◌∙◌, suc-mul, arith}
+use Rattle.std.proofs.Common.{◌≡◌, ℕ, zero, suc, ◌+◌, ◌*◌, ◌<◌, ◌≤◌, List, [], ◌++◌, length, get_or, take, drop, sym, refl, ap, ◌∙◌, suc-mul, arith}
 use Rattle.std.proofs.lemmas.List.{get_or-take, get_or-drop, get_or_past, length-take, length-drop, drop-drop, nil_from_length, take-append-drop}
 use Rattle.notation.specs.Kind.{rest}
-use Rattle.splitting.specs.Score.{Score, symbol}
+use Rattle.splitting.specs.Score.{symbol}
 use Rattle.search.specs.Columns.{columns_of}
 use Rattle.search.specs.Workspace.{symbols}
 

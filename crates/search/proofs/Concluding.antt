@@ -1,5 +1,5 @@
 -- The best rest under one transposition, from the row of the first note.
-use Rattle.std.proofs.Common.{◌≡◌, ℕ, suc, ◌+◌, ◌-◌, ◌*◌, ◌/◌, ◌%◌, ◌<◌, ◌≤◌, T, ◌⊎◌, List, length, get_or, ℤ, Some, None, Option, sym, refl, ap, ◌∙◌, subst, inl, inr, arith}
+use Rattle.std.proofs.Common.{◌≡◌, ℕ, ◌*◌, ◌/◌, ◌≤◌, T, ◌⊎◌, List, length, get_or, ℤ, Some, None, Option, sym, refl, ap, subst, inl, inr, arith}
 use Rattle.std.specs.Option.{option_map}
 use Rattle.std.proofs.lemmas.Nat.{div-add-mod'}
 use Rattle.std.proofs.lemmas.Bool.{cases_lt}
@@ -8,11 +8,10 @@ use Rattle.price.specs.Pricing.{Pricing, Lawful as PriceLaws}
 use Rattle.splitting.specs.Score.{Question}
 use Rattle.splitting.specs.Rest.{Rest, Least}
 use Rattle.splitting.specs.Answer.{NotAfter}
-use Rattle.splitting.specs.declared.Place.{Place}
 use Rattle.splitting.proofs.Depths.{depth_63}
 use Rattle.search.specs.Rows.{column_of, track_of, value}
 use Rattle.search.specs.Resting.{Posed, Wants, LeastRow}
-use Rattle.search.specs.Topmost.{Shallow, Tops, Topmost, place_at, BestRest, BestUnder}
+use Rattle.search.specs.Topmost.{Shallow, Topmost, place_at, BestUnder}
 use Rattle.search.specs.declared.topping.Best.{Best}
 use Rattle.search.proofs.Feeding.{div_mono}
 use Rattle.search.proofs.Spotting.{entry, entry_some, known}

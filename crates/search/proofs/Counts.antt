@@ -1,9 +1,9 @@
 -- Counting symbols by their bytes.
-use Rattle.std.proofs.Common.{◌≡◌, ℕ, zero, suc, ◌+◌, ◌<◌, ◌≤◌, max, Bool, true, false, cond, ◌||◌, T, eqb, ltb, ◌⊎◌, List, [], ◌∷◌, ◌++◌, map, length, get_or, take, drop, set, replicate, ℤ, Some, None, sum_by, count_by, Option, sym, refl, ap, ◌∙◌, subst, inl, inr, arith}
+use Rattle.std.proofs.Common.{◌≡◌, ℕ, zero, suc, ◌+◌, ◌<◌, ◌≤◌, max, Bool, true, false, cond, ◌||◌, T, eqb, ltb, List, [], ◌∷◌, map, length, get_or, take, set, replicate, ℤ, Some, None, count_by, Option, sym, refl, ap, ◌∙◌, subst, inl, inr, arith}
 use Rattle.std.specs.List.{AllByRecursion}
-use Rattle.std.proofs.lemmas.List.{length-map, length-set, length-take-le, get_or-replicate, get_or-set_same, get_or-set_other, take-map, take_all}
-use Rattle.std.proofs.lemmas.List.Sums.{sum_by-cons, sum_by_more, count_by_more_yes, count_by_more_no, count_by-le-length, sum_by-take-le}
-use Rattle.std.proofs.lemmas.Bool.{cases_eq, eq-eqb, ne_eqb, lt-ltb, le-ltb, ltb-true, ltb-false, eqb-true, cond-true, cond-false, cases_Bool, or_cases}
+use Rattle.std.proofs.lemmas.List.{length-map, length-set, length-take-le, get_or-replicate, get_or-set_same, get_or-set_other, take-map}
+use Rattle.std.proofs.lemmas.List.Sums.{sum_by-cons, count_by_more_yes, count_by_more_no, count_by-le-length}
+use Rattle.std.proofs.lemmas.Bool.{cases_eq, eq-eqb, ne_eqb, lt-ltb, ltb-true, eqb-true, cond-true, cond-false}
 use Rattle.notation.specs.Kind.{Kind, rest, readable, Lawful}
 use Rattle.notation.specs.declared.Mode.{Mode}
 use Rattle.splitting.specs.Score.{note}

@@ -1,18 +1,16 @@
 -- Taking the places of a row into the window, from the last one down.
-use Rattle.std.proofs.Common.{◌≡◌, ℕ, suc, ◌+◌, ◌-◌, ◌*◌, ◌/◌, ◌<◌, ◌≤◌, eqb, ◌⊎◌, List, [], ◌∷◌, ◌++◌, map, length, get_or, drop, Some, None, Ok, Err, count_by, Option, Result, sym, refl, ap, ◌∙◌, subst, inl, inr, div-mul-le_self, arith, MatchResult}
-use Rattle.std.specs.List.{slice_get}
+use Rattle.std.proofs.Common.{◌≡◌, ℕ, ◌+◌, ◌/◌, ◌<◌, ◌≤◌, List, length, get_or, Some, None, Ok, Err, Option, Result, sym, refl, ◌∙◌, subst, inl, inr, div-mul-le_self, arith, MatchResult}
 use Rattle.std.proofs.lemmas.List.{length_push}
 use Rattle.std.proofs.lemmas.Nat.{le-div}
 use Rattle.std.proofs.lemmas.Bool.{cases_lt, cases_eq}
 use Rattle.notation.specs.Kind.{rest}
 use Rattle.price.specs.Pricing.{Pricing}
 use Rattle.price.specs.History.{History, put_in, Accepts}
-use Rattle.price.specs.Answers.{Holds, Taken, Returned}
+use Rattle.price.specs.Answers.{Taken, Returned}
 use Rattle.price.specs.declared.entry.Entry.{Entry}
 use Rattle.price.specs.declared.window.Window.{Window}
 use Rattle.price.proofs.Spots.{pushed_before, pushed_last, pushed_cases}
-use Rattle.search.specs.Tables.{Mark}
-use Rattle.search.specs.Rows.{column_of, entry_at, Fed, Onward}
+use Rattle.search.specs.Rows.{column_of, entry_at, Fed}
 use Rattle.search.proofs.Linking.{count_yes}
 use Rattle.search.proofs.Valuing.{count_lower}
 

@@ -1,11 +1,11 @@
 -- Pieces written one after another, as the steps of the rows lead from note to note.
-use Rattle.std.proofs.Common.{◌≡◌, ℕ, suc, ◌+◌, ◌-◌, ◌<◌, ◌≤◌, ◌⊎◌, List, [], ◌∷◌, ◌++◌, length, ℤ, sym, refl, ap, ◌∙◌, subst, inl, inr, arith}
+use Rattle.std.proofs.Common.{◌≡◌, ℕ, suc, ◌+◌, ◌<◌, ◌≤◌, List, [], ◌∷◌, ◌++◌, length, ℤ, sym, refl, ap, ◌∙◌, subst, inl, inr, arith}
 use Rattle.std.proofs.lemmas.List.{append_assoc}
 use Rattle.std.proofs.lemmas.Bool.{cases_eq}
 use Rattle.price.specs.Pricing.{Pricing}
 use Rattle.splitting.specs.declared.Piece.{Piece}
 use Rattle.splitting.specs.Score.{Question, Matches}
-use Rattle.splitting.specs.Splitting.{gap, last, Placed, HandedOver, Splits, price_of}
+use Rattle.splitting.specs.Splitting.{gap, last, Placed, Splits, price_of}
 use Rattle.splitting.specs.Rest.{Rest, ends, goes_on, handed_over}
 use Rattle.splitting.specs.Laws.{Covered}
 use Rattle.splitting.proofs.Places.{match_note}

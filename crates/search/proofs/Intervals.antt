@@ -1,5 +1,5 @@
 -- Tests on intervals, and the one byte at an interval from a note.
-use Rattle.std.proofs.Common.{◌≡◌, ℕ, ◌<◌, Bool, true, false, T, eqb, ℤ, pos, negsuc, Some, None, Decides, Option, sym, refl, ap, ◌∙◌, subst, arith, MatchOption}
+use Rattle.std.proofs.Common.{◌≡◌, ℕ, ◌<◌, Bool, true, false, eqb, ℤ, pos, negsuc, Some, None, Decides, Option, sym, refl, ap, arith}
 use lib.IntN.{pos-ne-negsuc}
 use Rattle.std.proofs.lemmas.Bool.{true≢false}
 use Rattle.std.proofs.lemmas.Bool.Decides.{Decides-eqb, Decides-like, Decides-below_or}

@@ -1,8 +1,8 @@
 -- The tables over places, one place further.
-use Rattle.std.proofs.Common.{◌≡◌, ℕ, zero, suc, ◌+◌, ◌-◌, ◌<◌, ◌≤◌, true, false, cond, eqb, ◌⊎◌, List, [], ◌∷◌, map, length, get_or, drop, set, replicate, count_by, sym, refl, ap, ◌∙◌, subst, inl, inr, arith}
-use Rattle.std.proofs.lemmas.List.{length-map, length-set, length-drop, get_or-replicate, get_or-set_same, get_or-set_other, drop_all, drop-drop}
-use Rattle.std.proofs.lemmas.List.Sums.{sum_by-drop_more, sum_by-take-drop, count_by-le-length}
-use Rattle.std.proofs.lemmas.Bool.{cases_eq, cases_lt, eq-eqb, ne_eqb, cond-true, cond-false}
+use Rattle.std.proofs.Common.{◌≡◌, ℕ, ◌+◌, ◌-◌, ◌<◌, ◌≤◌, cond, eqb, List, length, get_or, drop, set, replicate, count_by, sym, ap, ◌∙◌, subst, inl, inr, arith}
+use Rattle.std.proofs.lemmas.List.{length-drop, get_or-replicate, get_or-set_same, get_or-set_other, drop_all}
+use Rattle.std.proofs.lemmas.List.Sums.{sum_by-drop_more, count_by-le-length}
+use Rattle.std.proofs.lemmas.Bool.{cases_eq, eq-eqb, ne_eqb, cond-true, cond-false}
 use Rattle.notation.specs.Kind.{rest}
 use Rattle.search.specs.Tables.{later, Mark, Linked, Marks, Ranked}
 use Rattle.search.specs.Workspace.{Counted}

@@ -1,6 +1,5 @@
 -- Filling a row, place by place from the last one down.
-use Rattle.std.proofs.Common.{◌≡◌, ℕ, suc, ◌+◌, ◌-◌, ◌*◌, ◌/◌, ◌<◌, ◌≤◌, eqb, ◌⊎◌, List, [], length, get_or, drop, set, ℤ, Some, None, count_by, Option, sym, refl, ap, ◌∙◌, subst, inl, inr, div-le_self, arith}
-use Rattle.std.specs.List.{slice_get}
+use Rattle.std.proofs.Common.{◌≡◌, ℕ, suc, ◌+◌, ◌-◌, ◌/◌, ◌<◌, ◌≤◌, eqb, List, length, get_or, set, ℤ, Some, None, count_by, Option, sym, refl, ap, ◌∙◌, subst, inl, inr, div-le_self, arith}
 use Rattle.std.specs.Option.{option_map}
 use Rattle.std.proofs.lemmas.List.{get_or-set_same, get_or-set_other}
 use Rattle.std.proofs.lemmas.Bool.{cases_lt, cases_eq}
@@ -13,7 +12,7 @@ use Rattle.price.proofs.Spots.{nowhere as no-entry}
 use Rattle.splitting.specs.Score.{Question}
 use Rattle.splitting.specs.Rest.{Rest, Least}
 use Rattle.search.specs.Tables.{later, Mark}
-use Rattle.search.specs.Rows.{column_of, track_of, value, Fed, Onward, Hands, Chosen}
+use Rattle.search.specs.Rows.{column_of, track_of, value, Fed, Hands, Chosen}
 use Rattle.splitting.proofs.Least.{least_last}
 use Rattle.search.specs.Resting.{Posed, Wants, NextNotes, LeastRow, Leads, LeadingRow, step_at}
 use Rattle.search.specs.declared.choosing.Over.{Over}

@@ -1,17 +1,16 @@
 -- All rows, from the last note to the first.
-use Rattle.std.proofs.Common.{◌≡◌, ℕ, suc, ◌+◌, ◌-◌, ◌<◌, ◌≤◌, eqb, ◌⊎◌, List, length, get_or, drop, ℤ, Some, None, sum_by, count_by, Option, sym, refl, ap, ◌∙◌, subst, inl, inr, arith}
+use Rattle.std.proofs.Common.{◌≡◌, ℕ, suc, ◌+◌, ◌-◌, ◌<◌, ◌≤◌, eqb, List, length, get_or, drop, ℤ, None, sum_by, count_by, Option, sym, ap, ◌∙◌, subst, inl, inr, arith}
 use Rattle.std.proofs.lemmas.List.{drop-drop, drop_all}
 use Rattle.std.proofs.lemmas.List.Sums.{sum_by-drop_more, sum_by-take-drop}
-use Rattle.std.proofs.lemmas.Bool.{cases_eq, cases_lt}
-use Rattle.notation.specs.Kind.{rest}
+use Rattle.std.proofs.lemmas.Bool.{cases_eq}
 use Rattle.price.specs.Pricing.{Pricing}
 use Rattle.splitting.specs.Score.{Question}
 use Rattle.search.specs.Tables.{later, Mark, Marks}
 use Rattle.search.specs.declared.row.Row.{Row}
 use Rattle.search.specs.Rows.{value}
 use Rattle.search.specs.Workspace.{Counted}
-use Rattle.search.specs.Resting.{Posed, Wants, NextNotes, Wanted, LeastRow, Leads, LeadingRow, step_at, offset_of, row_of, RowRight, RowsRight}
-use Rattle.search.proofs.RowFilling.{value_same, value_kept}
+use Rattle.search.specs.Resting.{Posed, Wants, NextNotes, LeastRow, Leads, LeadingRow, step_at, offset_of, row_of, RowRight, RowsRight}
+use Rattle.search.proofs.RowFilling.{value_same}
 use Rattle.search.proofs.Valuing.{rank_below}
 
 module _ (bytes want : List ℕ) where

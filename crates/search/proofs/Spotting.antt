@@ -1,15 +1,14 @@
 -- Places of the score, and the rests that begin there.
-use Rattle.std.proofs.Common.{◌≡◌, ℕ, zero, suc, ◌+◌, ◌-◌, ◌*◌, ◌/◌, ◌%◌, ◌<◌, ◌≤◌, Bool, true, false, cond, ltb, ◌⊎◌, List, length, get_or, ℤ, Some, None, Option, sym, refl, ap, ◌∙◌, subst, inl, inr, mul_comm, arith}
+use Rattle.std.proofs.Common.{◌≡◌, ℕ, zero, suc, ◌+◌, ◌*◌, ◌/◌, ◌%◌, ◌<◌, ◌≤◌, Bool, true, false, cond, ltb, ◌⊎◌, List, length, get_or, ℤ, Some, None, Option, sym, refl, ap, ◌∙◌, subst, inl, inr, mul_comm, arith}
 use Rattle.std.specs.Option.{option_map}
 use Rattle.std.proofs.lemmas.Nat.{mul-le, mul-add-lt, div-mul-add, mod-mul-add, div_below, mod_below, div-add-mod'}
-use Rattle.std.proofs.lemmas.Bool.{cases_lt, cases_eq, cases_Bool, lt-ltb, le-ltb, ltb-true, cond-true, cond-false}
+use Rattle.std.proofs.lemmas.Bool.{cases_lt, cases_eq, lt-ltb, le-ltb, ltb-true, cond-true, cond-false}
 use Rattle.notation.specs.Kind.{rest, Lawful}
 use Rattle.price.specs.Pricing.{Pricing}
 use Rattle.splitting.specs.Score.{Question, symbol, note, Matches}
 use Rattle.splitting.specs.Rest.{Rest, Least}
 use Rattle.splitting.proofs.Kept.{one_symbol}
 use Rattle.splitting.proofs.Depths.{rest_matches}
-use Rattle.search.specs.Columns.{columns_of}
 use Rattle.search.specs.Rows.{column_of, track_of}
 use Rattle.search.specs.Resting.{Posed, Wants, LeastRow}
 use Rattle.search.proofs.Columns.{symbol_at, symbol_past_columns, symbol_past_tracks}

@@ -1,9 +1,9 @@
 -- The least rest from a place: from the next row and from what the window tells.
-use Rattle.std.proofs.Common.{◌≡◌, ℕ, zero, suc, ◌+◌, ◌-◌, ◌*◌, ◌/◌, ◌%◌, ◌<◌, ◌≤◌, Bool, true, false, cond, T, ltb, ◌⊎◌, List, length, get_or, ℤ, Some, None, Option, sym, refl, ap, ◌∙◌, subst, inl, inr, add-mul, arith}
+use Rattle.std.proofs.Common.{◌≡◌, ℕ, suc, ◌+◌, ◌-◌, ◌*◌, ◌/◌, ◌%◌, ◌<◌, ◌≤◌, T, ltb, ◌⊎◌, List, length, get_or, ℤ, Some, None, Option, sym, refl, ap, ◌∙◌, subst, inl, inr, add-mul, arith}
 use Rattle.std.specs.List.{slice_get}
 use Rattle.std.specs.Option.{option_map}
 use Rattle.std.proofs.lemmas.Nat.{div_below, mod_below, div-add-mod'}
-use Rattle.std.proofs.lemmas.Bool.{cases_lt, lt-ltb, cond-true, cond-false}
+use Rattle.std.proofs.lemmas.Bool.{lt-ltb, cond-true, cond-false}
 use Rattle.notation.specs.Kind.{rest}
 use Rattle.price.specs.Pricing.{Pricing, Lawful as PriceLaws}
 use Rattle.price.specs.History.{History, Within, Bounded, cost}
@@ -12,9 +12,9 @@ use Rattle.splitting.specs.Score.{Score, Question, Matches}
 use Rattle.splitting.specs.Splitting.{gap}
 use Rattle.splitting.specs.Rest.{Rest, Least, lesser, Open, opened}
 use Rattle.splitting.proofs.Places.{match_note}
-use Rattle.splitting.proofs.Depths.{depth_small, depth_63}
+use Rattle.splitting.proofs.Depths.{depth_small}
 use Rattle.splitting.proofs.Least.{least_step}
-use Rattle.search.specs.Rows.{column_of, track_of, entry_at, going_on, HandedTo, Hands, Chosen, neither, only_on, only_over, on, over}
+use Rattle.search.specs.Rows.{column_of, track_of, entry_at, HandedTo, Hands, Chosen, neither, only_on, only_over, on, over}
 use Rattle.search.specs.Resting.{Posed, Wants, LeastRow, Leads, nowhere, on as leads-on, over as leads-over}
 use Rattle.search.specs.declared.choosing.Over.{Over}
 use Rattle.search.proofs.Columns.{length_columns}

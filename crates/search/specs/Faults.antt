@@ -1,5 +1,4 @@
 -- What each fault tells: its number, its place and its layer.
-use Rattle.std.specs.Prelude.{ℕ}
 use Rattle.book.specs.Refusals.{refusal}
 use Rattle.book.specs.declared.refusal.Layer.TheVariants.{Query, Question, Transposing}
 use Rattle.book.specs.declared.refusal.Refusal.{Refusal}

@@ -1,5 +1,5 @@
 -- Which queries, lists and transpositions are refused.
-use Rattle.std.specs.Prelude.{ℕ, zero, suc, ◌+◌, Bool, true, false, not, ◌&&◌, ◌||◌, List, length, ℤ, pos, negsuc, Some, None, Option, ◌==◌, nat_le}
+use Rattle.std.specs.Prelude.{ℕ, zero, suc, ◌+◌, Bool, false, not, ◌&&◌, ◌||◌, List, length, ℤ, pos, negsuc, Some, None, Option, ◌==◌, nat_le}
 use Rattle.std.specs.List.{prefix_len}
 use Rattle.notation.specs.Kind.{Kind, rest}
 use Rattle.book.specs.Refusals.{refusal, unless, then}

@@ -1,5 +1,5 @@
 -- The cheapest rest of a row, and of those the one that begins earliest.
-use Rattle.std.specs.Prelude.{◌≡◌, ℕ, ◌≤◌, true, false, T, ℤ, Some, None, Option, ◌≢◌}
+use Rattle.std.specs.Prelude.{◌≡◌, ℕ, ◌≤◌, T, ℤ, Some, None, Option, ◌≢◌}
 use Rattle.price.specs.Pricing.{Pricing}
 use Rattle.splitting.specs.Score.{Question}
 use Rattle.splitting.specs.Rest.{Rest}

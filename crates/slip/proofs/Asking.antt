@@ -5,8 +5,7 @@ use Rattle.std.proofs.lemmas.List.{drop_more, length-take-le, length-drop, take_
 use Rattle.std.proofs.lemmas.Bool.{and_parts, and_from, eqb-true, eq-eqb, leb-true}
 use Rattle.notation.specs.Kind.{Kind, readable}
 use Rattle.notation.specs.Known.{known}
-use Rattle.book.specs.Refusals.{refusal, unless, then}
-use Rattle.book.specs.Blocks.{block_bytes, body, four, weighted, two, letter, payload_length, payload, slip_letter, block_refusal}
+use Rattle.book.specs.Blocks.{block_bytes, body, four, weighted, letter, payload_length, payload, slip_letter, block_refusal}
 use Rattle.book.specs.Books.{expected, symbols_refusal}
 use Rattle.slip.specs.Faults.{slip_told}
 use Rattle.slip.specs.Slips.{Inquiry, InquiryOf, in_range, slip_payload, slip_bytes, asked, slip_fields, slip_refusal}

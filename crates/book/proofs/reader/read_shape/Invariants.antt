@@ -1,4 +1,4 @@
-use Rattle.std.proofs.Common.{◌≡◌, ◌-◌, ◌/◌, length}
+use Rattle.std.proofs.Common.{◌≡◌, ◌-◌}
 use Rattle.book.specs.Books.{blocks_refusal, title_shape, Open}
 use Rattle.book.specs.declared.stage.Stage.TheVariants.{Title}
 use Rattle.book.proofs.Walking.{from_block, Knows}

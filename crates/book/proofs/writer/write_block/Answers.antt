@@ -1,4 +1,4 @@
-use Rattle.std.proofs.Common.{◌≡◌, map, length, sym, ◌∙◌, arith}
+use Rattle.std.proofs.Common.{map, length, ◌∙◌, arith}
 use Rattle.std.proofs.lemmas.List.{length-map}
 use Rattle.book.specs.Blocks.{block_bytes, columns_letter}
 use Rattle.book.proofs.Blocking.{in_place}

@@ -1,4 +1,4 @@
-use Rattle.std.proofs.Common.{◌≡◌, leb, map, length, sym, ap, ◌∙◌, arith}
+use Rattle.std.proofs.Common.{map, length, ap, ◌∙◌, arith}
 use Rattle.std.proofs.lemmas.Result.{IfOk-weaker}
 use Rattle.report.proofs.Calls.{limit_small}
 use Rattle.report.proofs.answering.answered.Goals as goal

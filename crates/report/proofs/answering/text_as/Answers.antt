@@ -1,8 +1,6 @@
-use Rattle.std.proofs.Common.{◌≡◌, Some, string_bytes, sym, ap, ◌∙◌, subst}
+use Rattle.std.proofs.Common.{Some, string_bytes, sym, ap, ◌∙◌}
 use Rattle.std.proofs.lemmas.Result.{IfOk-weaker}
-use Rattle.finder.specs.ScoreRules.{fill_refusal}
 use Rattle.slip.specs.Slips.{asked}
-use Rattle.report.specs.Reports.{room_for, question_of, asking_refusal, AnswerTold}
 use Rattle.report.proofs.Calls.{slip_granted, slip_refused}
 use Rattle.report.proofs.answering.text_as.Goals as goal
 

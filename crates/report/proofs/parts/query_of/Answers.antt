@@ -1,7 +1,5 @@
-use Rattle.std.proofs.Common.{◌≡◌, ℕ, ◌+◌, ◌-◌, ◌<◌, true, false, leb, List, [], ◌∷◌, ◌++◌, map, length, get_or, take, vec_items, Vec, sym, ap, ◌∙◌, arith}
-use Rattle.std.specs.declared.alloc.Global.{Global}
-use Rattle.std.proofs.lemmas.List.{map_push, take_more, take_all}
-use Rattle.slip.specs.SlipReading.{has_note}
+use Rattle.std.proofs.Common.{◌<◌, length, vec_items, ap, ◌∙◌, arith}
+use Rattle.std.proofs.lemmas.List.{take_all}
 use Rattle.report.proofs.Notes.{pushed, has_every_note}
 use Rattle.report.proofs.parts.query_of.Goals as goal
 use Rattle.report.proofs.parts.query_of.Goals.{in-Some+in_ok-push, in_default}

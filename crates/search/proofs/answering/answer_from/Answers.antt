@@ -1,4 +1,4 @@
-use Rattle.std.proofs.Common.{◌≡◌, ◌≤◌, map, length, sym, refl, ap, subst, arith, w32, SFits, rules}
+use Rattle.std.proofs.Common.{map, sym, refl, subst, arith, w32, SFits, rules}
 use Rattle.std.proofs.lemmas.List.{length-map}
 use Rattle.std.proofs.lemmas.Int.{to_z-of_z}
 use Rattle.splitting.specs.Answer.{Right}

@@ -1,6 +1,6 @@
-use Rattle.std.proofs.Common.{◌≡◌, ℕ, true, false, Some, None, Option, sym, ◌∙◌, subst}
+use Rattle.std.proofs.Common.{◌≡◌, ℕ, Some, None, Option, sym, ◌∙◌, subst}
 use Rattle.price.specs.Pricing.{Pricing}
-use Rattle.search.specs.Rows.{Chosen, neither, only_on, only_over, on, over, going_on}
+use Rattle.search.specs.Rows.{Chosen, neither, only_on, only_over, on, over}
 use Rattle.search.specs.declared.choosing.Over.{Over}
 use Rattle.search.proofs.choosing.choose.Goals as goal
 

@@ -1,6 +1,5 @@
-use Rattle.std.proofs.Common.{◌≡◌, ◌-◌, sym, refl, ap, ◌∙◌, subst, arith}
+use Rattle.std.proofs.Common.{◌≡◌, ◌-◌, refl, ap, ◌∙◌, subst, arith}
 use Rattle.price.specs.History.{moved, Told}
-use Rattle.price.specs.Answers.{Holds}
 use Rattle.search.proofs.choosing.hand_over.Goals as goal
 
 pub returns-in_default : goal.returns-in_default

@@ -1,6 +1,5 @@
-use Rattle.std.proofs.Common.{◌≡◌, map, length, sym, ap, subst, arith}
+use Rattle.std.proofs.Common.{◌≡◌, map, length, ap, arith}
 use Rattle.std.proofs.lemmas.List.{length-map}
-use Rattle.search.specs.Candidates.{Asked}
 use Rattle.search.specs.Questions.{grid_question}
 use Rattle.search.specs.Workspace.{workspace, workspace_of}
 use Rattle.search.proofs.Asking.{few_symbols, same_workspace, asked, granted}

@@ -1,4 +1,4 @@
-use Rattle.std.proofs.Common.{map, length, ap, subst, arith}
+use Rattle.std.proofs.Common.{length, ap, arith}
 use Rattle.search.proofs.Asking.{few_symbols, sized}
 use Rattle.search.proofs.finding.workspace_size.Goals as goal
 

@@ -1,4 +1,4 @@
-use Rattle.std.proofs.Common.{◌+◌, ◌<◌, map, length, get_or, set, sym, subst, arith}
+use Rattle.std.proofs.Common.{◌+◌, ◌<◌, map, get_or, set, sym, subst, arith}
 use Rattle.std.proofs.lemmas.List.{length-map}
 use Rattle.search.proofs.Trailing.{Following, inside, following_none, following_on, following_over, following_ends, over_in, stays, step_in, step_is, offset_lower}
 use Rattle.search.proofs.pieces.write_pieces.Goals as goal

@@ -1,7 +1,6 @@
-use Rattle.std.proofs.Common.{◌≡◌, ℕ, ◌+◌, ◌-◌, ◌<◌, ◌≤◌, map, length, get_or, set, Some, sym, refl, ap, ◌∙◌, subst, arith}
+use Rattle.std.proofs.Common.{◌≡◌, ◌+◌, ◌-◌, ◌<◌, map, length, get_or, set, Some, sym, ap, ◌∙◌, subst, arith}
 use Rattle.std.proofs.lemmas.List.{length-map}
-use Rattle.notation.specs.Kind.{rest}
-use Rattle.search.specs.Tables.{later, Mark}
+use Rattle.search.specs.Tables.{Mark}
 use Rattle.search.proofs.Valuing.{ranked_at, rank_in}
 use Rattle.search.proofs.RowFilling.{Emptied, emptied_more, emptied_least}
 use Rattle.search.proofs.row.fill_last.Goals as goal

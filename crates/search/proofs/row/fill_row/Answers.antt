@@ -1,8 +1,7 @@
-use Rattle.std.proofs.Common.{◌≡◌, ℕ, ◌+◌, ◌-◌, ◌/◌, ◌<◌, ◌≤◌, map, length, get_or, set, sym, refl, ap, ◌∙◌, subst, div-le_self, arith}
+use Rattle.std.proofs.Common.{◌≡◌, ◌+◌, ◌-◌, ◌<◌, ◌≤◌, map, length, get_or, set, sym, ap, ◌∙◌, subst, div-le_self, arith}
 use Rattle.std.proofs.lemmas.List.{length-map}
-use Rattle.notation.specs.Kind.{rest}
-use Rattle.search.specs.Tables.{later, Mark}
-use Rattle.search.specs.Rows.{value, Fed, Chosen}
+use Rattle.search.specs.Tables.{Mark}
+use Rattle.search.specs.Rows.{Fed, Chosen}
 use Rattle.search.proofs.Valuing.{ranked_at, rank_in}
 use Rattle.search.proofs.RowFilling.{Filling, Filled, filling_none, filling_more, next_same}
 use Rattle.search.proofs.row.fill_row.Goals as goal

@@ -1,6 +1,6 @@
-use Rattle.std.proofs.Common.{◌≡◌, ℕ, ◌+◌, ◌-◌, ◌<◌, ◌≤◌, map, length, get_or, sym, refl, ap, ◌∙◌, subst, arith}
+use Rattle.std.proofs.Common.{◌≡◌, ◌+◌, ◌-◌, ◌<◌, map, length, get_or, sym, subst, arith}
 use Rattle.std.proofs.lemmas.List.{length-map}
-use Rattle.price.specs.History.{History, put_in}
+use Rattle.price.specs.History.{put_in}
 use Rattle.search.specs.Tables.{Mark}
 use Rattle.search.specs.Rows.{value, entry_at, Fed}
 use Rattle.search.proofs.Valuing.{value_byte}

@@ -1,4 +1,4 @@
-use Rattle.std.proofs.Common.{◌≡◌, ℕ, ◌-◌, ◌<◌, ◌≤◌, map, length, get_or}
+use Rattle.std.proofs.Common.{◌≡◌, ◌-◌, ◌<◌, ◌≤◌, map, get_or}
 use Rattle.notation.specs.Kind.{rest}
 use Rattle.price.specs.History.{History}
 use Rattle.search.specs.Rows.{value, Fed, Onward}

@@ -1,9 +1,9 @@
-use Rattle.std.proofs.Common.{◌≡◌, ℕ, ◌+◌, ◌-◌, ◌<◌, ◌≤◌, eqb, List, map, length, get_or, ℤ, count_by, sym, refl, ap, ◌∙◌, subst, arith}
+use Rattle.std.proofs.Common.{◌≡◌, ◌+◌, ◌-◌, ◌<◌, map, length, get_or, ℤ, sym, ap, ◌∙◌, subst, arith}
 use Rattle.search.specs.Rows.{value}
-use Rattle.search.specs.Resting.{offset_of, RowsRight, Posed, Wants, LeastRow}
+use Rattle.search.specs.Resting.{RowsRight, Posed, Wants, LeastRow}
 use Rattle.search.specs.declared.row.Row.{Row}
 use Rattle.splitting.specs.Score.{Question}
-use Rattle.search.proofs.Rowing.{offset_all, offset_last, offset_next, rows_last, rows_more, standing, standing_before, Asks, asked, Gives}
+use Rattle.search.proofs.Rowing.{offset_all, offset_last, rows_last, rows_more, standing, standing_before, Asks, asked, Gives}
 use Rattle.search.proofs.rows.fill_rows.Goals as goal
 
 pub fill_last-requires : goal.fill_last-requires

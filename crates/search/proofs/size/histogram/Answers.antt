@@ -1,7 +1,7 @@
-use Rattle.std.proofs.Common.{◌≡◌, map, length, take, sym, ap, ◌∙◌, subst, arith, Fits-lit}
+use Rattle.std.proofs.Common.{map, subst, arith}
 use Rattle.std.proofs.lemmas.List.{take_all}
 use Rattle.search.specs.Workspace.{Counted}
-use Rattle.search.proofs.Counts.{Counts, counts_none, counts_few, counts_more, byte_small}
+use Rattle.search.proofs.Counts.{counts_none, counts_few, counts_more}
 use Rattle.search.proofs.size.histogram.Goals as goal
 
 pub loop-s-init : goal.loop-s-init

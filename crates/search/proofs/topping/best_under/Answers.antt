@@ -1,4 +1,4 @@
-use Rattle.std.proofs.Common.{◌≡◌, ℕ, ◌+◌, ◌-◌, ◌<◌, ◌≤◌, eqb, map, length, get_or, count_by, sym, refl, ap, ◌∙◌, subst, arith}
+use Rattle.std.proofs.Common.{◌+◌, ◌≤◌, eqb, map, length, get_or, count_by, sym, subst, arith}
 use Rattle.search.specs.Rows.{value}
 use Rattle.search.specs.Tables.{Mark}
 use Rattle.search.specs.Topmost.{Shallow, Topmost}

@@ -1,4 +1,4 @@
-use Rattle.std.proofs.Common.{◌≡◌, ℕ, ◌+◌, Bool, true, false, T, Some, None, sym, refl, ap, ◌∙◌, subst}
+use Rattle.std.proofs.Common.{◌+◌, T, sym, ◌∙◌, subst}
 use Rattle.search.specs.Topmost.{Topmost}
 use Rattle.search.proofs.Bettering.{top_skip, top_first, top_takes, top_keeps}
 use Rattle.search.proofs.topping.better.Goals as goal

@@ -3,7 +3,7 @@ use Rattle.std.specs.List.{prefix_len}
 use Rattle.std.proofs.lemmas.List.{length-take-le, length-drop}
 use Rattle.std.proofs.lemmas.Bool.{cond-true, cond-false, lt-leb, le-leb}
 use Rattle.notation.specs.Kind.{Kind, readable}
-use Rattle.book.specs.Refusals.{refusal, then}
+use Rattle.book.specs.Refusals.{refusal}
 use Rattle.book.specs.Faults.{letter_byte}
 use Rattle.slip.specs.Slips.{asked}
 use Rattle.book.specs.Blocks.{number, kind_number}

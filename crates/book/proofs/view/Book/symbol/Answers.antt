@@ -1,4 +1,4 @@
-use Rattle.std.proofs.Common.{◌≡◌, T, get_or, sym, refl, ◌∙◌, subst}
+use Rattle.std.proofs.Common.{T, get_or, sym, refl, ◌∙◌, subst}
 use Rattle.notation.specs.Kind.{readable}
 use Rattle.book.specs.Reading.{has_place, byte_place, cell_number}
 use Rattle.book.proofs.Promises.{place_told, told_there, nowhere}
