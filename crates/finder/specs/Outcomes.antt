@@ -1,5 +1,5 @@
 -- Which outcome of a call is right, by the ledger that it meets.
-use Rattle.std.specs.Prelude.{◌≡◌, ℕ, ◌-◌, min, List, map, length, take, drop, replicate, ℤ, vec_items, MatchBool, MatchOption}
+use Rattle.std.specs.Prelude.{◌≡◌, ℕ, min, List, map, length, take, drop, replicate, ℤ, vec_items, MatchBool, MatchOption}
 use Rattle.notation.specs.Kind.{Kind, rest}
 use Rattle.price.specs.Pricing.{Pricing}
 use Rattle.splitting.specs.Answer.{Answers, meant}

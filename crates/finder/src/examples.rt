@@ -6,6 +6,7 @@ use super::terms::Terms;
 use notation::{Mode, Pitch, PitchClass, Stroke, Symbol};
 use price::{Changes, ChangesThenSilence, Entry, Price};
 use splitting::{Answer, Piece};
+use std::alloc::Global;
 use std::test::*;
 
 /// Puts the columns last whose bytes stand one after another; tells whether each is a symbol and
@@ -134,14 +135,13 @@ fn terms(limit: u32, mode: Mode) -> Option<Terms> {
 }
 
 /// Track 1: 60 62 64 65 and two rests. Track 2: two rests and 48 50 72 74.
-fn two_tracks(rt: HostRuntime) -> Result<Score<Pitch>, Fail> {
+fn two_tracks(heap: Global) -> Result<Score<Pitch>, Fail> {
     let rest = Pitch::read(255).ok_or(255u8)?;
-    let mut score = Score::new(2, [rest; 12].to_vec(rt.alloc())?);
-    assert!(spell(
-        &mut score,
-        &[rest; 2],
-        &[60, 255, 62, 255, 64, 48, 65, 50, 255, 72, 255, 74],
-    ));
+    let mut score = Score::new(2, [rest; 12].to_vec(heap)?);
+    let bytes = [60, 255, 62, 255, 64, 48, 65, 50, 255, 72, 255, 74];
+    if !spell(&mut score, &[rest; 2], &bytes) {
+        return Err(Fail::new("the score was not spelled"));
+    }
     Ok(score)
 }
 
@@ -151,7 +151,7 @@ fn pitch(byte: u8) -> Result<Pitch, u8> {
 
 #[test]
 fn over_two_tracks(rt: HostRuntime) -> Result<(), Fail> {
-    let score = two_tracks(rt)?;
+    let score = two_tracks(rt.alloc())?;
     let query = [pitch(62)?, pitch(64)?, pitch(65)?, pitch(72)?];
     let told = by_changes(&score, &Terms::new(), &query);
     assert!(rt; is_found(&told, 2, 0, piece(1, 3, 1, 2), piece(4, 1, 2, 5)));
@@ -167,7 +167,7 @@ fn over_two_tracks(rt: HostRuntime) -> Result<(), Fail> {
 
 #[test]
 fn transposed_over_two_tracks(rt: HostRuntime) -> Result<(), Fail> {
-    let score = two_tracks(rt)?;
+    let score = two_tracks(rt.alloc())?;
     let any = terms(0, Mode::AnyTransposition).ok_or(1u8)?;
     let told = by_changes(&score, &any, &[pitch(61)?]);
     assert!(rt; is_found(&told, 1, -1, piece(1, 1, 1, 1), NOTHING));
