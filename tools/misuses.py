@@ -24,7 +24,7 @@ for edit in sorted((root / "tools" / "misuses").glob("*.edit")):
         continue
     try:
         source.write_text(text.replace(said["old"], said["new"]))
-        run = subprocess.run(["rt", "dev", "finder"], cwd=root, capture_output=True, text=True)
+        run = subprocess.run(["rt", "check"], cwd=crate, capture_output=True, text=True)
     finally:
         source.write_text(text)
     errors = re.findall(r"error(?:\[[^\]]*\])?", run.stdout + run.stderr)
