@@ -1,6 +1,6 @@
 //! Blocks of 512 bytes, the parts of books and slips.
 
-ghost use Rattle.std.specs.Prelude.{◌≡◌, ◌+◌, ◌*◌, ◌<◌, ◌≤◌, true, false, length, take, Some, None, MatchOption, MatchResult};
+ghost use Rattle.std.specs.Prelude.{◌≡◌, ◌+◌, ◌*◌, ◌<◌, ◌≤◌, true, false, length, take, Some, None, MatchOption, MatchResult, slice_index};
 ghost use Rattle.notation.specs.Known.{known};
 ghost use Rattle.book.specs.Blocks.{weighted, blank, letter, known_letter, payload_length, padded, sound, stored_check, block_refusal};
 ghost use Rattle.book.specs.Faults.{letter_byte, block_told};
@@ -47,7 +47,7 @@ fn is_padded(bytes: &[u8]) -> bool
     requires { length bytes.now ≡ 512 }
     ensures { result ≡ padded bytes.now }
 {
-    let len = two_bytes(bytes[4], bytes[5]);
+    let len = two_bytes(bytes, 4);
     len <= 502 && is_blank(&bytes[6 + len as usize..508])
 }
 
@@ -88,10 +88,18 @@ fn stored_check(bytes: &[u8]) -> u32
 }
 
 /// The number that two bytes write, the high byte first.
-pub fn two_bytes(high: u8, low: u8) -> u16
+pub(crate) fn two_bytes(bytes: &[u8], at: usize) -> u16
+    requires { at + 1 < length bytes.now }
+    ensures { result ≡ slice_index bytes.now at * 256 + slice_index bytes.now (at + 1) }
+{
+    bytes[at] as u16 * 256 + bytes[at + 1] as u16
+}
+
+/// The same of two bytes that were read.
+pub fn number_of(high: u8, low: u8) -> u16
     ensures { result ≡ high * 256 + low }
 {
-    high as u16 * 256 + low as u16
+    two_bytes(&[high, low], 0)
 }
 
 fn letter_of(b: u8) -> Option<Letter>

@@ -12,11 +12,11 @@ mod text;
 mod view;
 mod writer;
 
-pub use block::{Letter, check_block, two_bytes};
+pub use block::{Letter, check_block, number_of};
 pub use fault::{BlockFault, BookFault, DescribeFault, TooShort};
 pub use grid::Grid;
 pub use refusal::{Layer, Refusal};
-pub use sealing::put_block;
-pub use stage::{is_expected, readable_front};
+pub use sealing::{has_room, put_block};
+pub use stage::{fits_place, readable_front};
 pub use text::{describe, put_text, refused_line};
 pub use view::Book;

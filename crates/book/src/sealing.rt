@@ -9,7 +9,7 @@ use super::fault::TooShort;
 use notation::Symbol;
 
 /// Writes a number in two bytes, the high byte first.
-fn put_two(out: &mut [u8], at: usize, n: u16)
+pub(crate) fn put_two(out: &mut [u8], at: usize, n: u16)
     requires { at + 1 < length out.old }
     ensures { out.new ≡ slice_set (slice_set out.old at (n / 256)) (at + 1) (n % 256) }
 {
@@ -73,7 +73,7 @@ pub(crate) fn put_symbols<S: Symbol>(out: &mut [u8], at: usize, symbols: &[S])
 }
 
 /// Refuses an output that is too short.
-pub(crate) fn has_room(out: &[u8], needed: usize) -> Result<(), TooShort>
+pub fn has_room(out: &[u8], needed: usize) -> Result<(), TooShort>
     ensures { MatchResult result (λ _. needed ≤ length out.now) (λ f. (length out.now < needed) × (f.needed ≡ needed)) }
 {
     if out.len() < needed {

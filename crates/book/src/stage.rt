@@ -4,7 +4,7 @@ ghost use Rattle.std.specs.Prelude.{◌≡◌, ◌+◌, ◌*◌, ◌^◌, ◌<�
 ghost use Rattle.std.specs.List.{prefix_len};
 ghost use Rattle.notation.specs.Kind.{readable};
 ghost use Rattle.book.specs.Blocks.{payload_length, letter};
-ghost use Rattle.book.specs.Books.{turn_refusal, title_refusal, columns_refusal, after, opened, due, title_shape, in_shape, Open};
+ghost use Rattle.book.specs.Books.{turn_refusal, title_refusal, columns_refusal, after, opened, due, title_shape, in_shape, expected, Open};
 ghost use Rattle.book.specs.Faults.{letter_byte, book_told};
 
 use super::block::{Letter, two_bytes};
@@ -79,8 +79,16 @@ impl Shape {
     }
 }
 
+/// Whether a block has the number that its place asks for, and is of the kind.
+pub(crate) fn is_expected<S: Symbol>(block: usize, bytes: &[u8]) -> bool
+    requires { length bytes.now ≡ 512 }
+    ensures { result ≡ expected S.kind block bytes.now }
+{
+    fits_place::<S>(block, bytes[1], two_bytes(bytes, 2))
+}
+
 /// Whether a block's own kind and number are those that its place asks for.
-pub fn is_expected<S: Symbol>(block: usize, of: u8, number: u16) -> bool
+pub fn fits_place<S: Symbol>(block: usize, of: u8, number: u16) -> bool
     ensures { result ≡ (number == block && of == S.kind.number) }
 {
     number as usize == block && of == S::number()
@@ -113,14 +121,14 @@ fn title<S: Symbol>(block: usize, bytes: &[u8]) -> Result<Stage, BookFault>
     requires letter_is { letter bytes.now ≡ 72 }
     ensures { MatchResult result (λ s. (title_refusal S.kind block bytes.now ≡ None) × (s ≡ opened (title_shape bytes.now) 0) × Open s) (λ f. title_refusal S.kind block bytes.now ≡ Some (book_told f)) }
 {
-    if !is_expected::<S>(block, bytes[1], two_bytes(bytes[2], bytes[3])) {
+    if !is_expected::<S>(block, bytes) {
         return Err(BookFault::Unexpected { block });
     }
     let shape = Shape {
         tracks: bytes[6],
-        columns: two_bytes(bytes[7], bytes[8]),
+        columns: two_bytes(bytes, 7),
     };
-    if two_bytes(bytes[4], bytes[5]) != 3 || !shape.is_lawful() {
+    if two_bytes(bytes, 4) != 3 || !shape.is_lawful() {
         return Err(BookFault::MisshapenTitle { block });
     }
     Ok(shape.opened(0))
@@ -139,11 +147,11 @@ fn columns<S: Symbol>(
     requires payload_fits { payload_length bytes.now ≤ 502 }
     ensures { MatchResult result (λ s. (columns_refusal S.kind shape read block bytes.now ≡ None) × (s ≡ opened shape (read + due shape read)) × Open s) (λ f. columns_refusal S.kind shape read block bytes.now ≡ Some (book_told f)) }
 {
-    if !is_expected::<S>(block, bytes[1], two_bytes(bytes[2], bytes[3])) {
+    if !is_expected::<S>(block, bytes) {
         return Err(BookFault::Unexpected { block });
     }
     let due = shape.due(read);
-    let len = two_bytes(bytes[4], bytes[5]);
+    let len = two_bytes(bytes, 4);
     if len != due * u16::from(shape.tracks) {
         return Err(BookFault::UndueColumns { block });
     }

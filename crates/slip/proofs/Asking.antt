@@ -127,6 +127,10 @@ module _ {S : Type 0} (k : Kind) (input : List ℕ) where
       }
 
 -- a slip is one block
+pub length_slip : (k : Kind) (q : Inquiry) → length q.query ≤ 64 → length (slip_bytes k q) ≡ 512
+unfolding slip_bytes
+length_slip k q few = length_block slip_letter k.number 0 (slip_payload q) (omega arith)
+
 pub slip_is : (k : Kind) (q : Inquiry) → block_bytes slip_letter k.number 0 (slip_payload q) ≡ slip_bytes k q
 unfolding slip_bytes
 slip_is k q = refl

@@ -1,11 +1,12 @@
 //! Slips: a question as one block.
 
-ghost use Rattle.std.specs.Prelude.{◌≡◌, ◌-◌, ◌≤◌, true, false, length, Some, None, MatchOption, slice_index};
-ghost use Rattle.slip.specs.Slips.{Inquiry, slip_fields, asked};
+ghost use Rattle.std.specs.Prelude.{◌≡◌, ◌-◌, ◌≤◌, true, false, length, Some, None, MatchOption, MatchResult, slice_index};
+ghost use Rattle.slip.specs.Faults.{slip_told};
+ghost use Rattle.slip.specs.Slips.{Inquiry, slip_refusal, slip_fields, asked};
 ghost use Rattle.slip.specs.SlipReading.{SlipReading, Asks, NoteTold, Checked, mode_number, price_number, has_note};
 
 use super::fault::SlipFault;
-use book::{Letter, check_block, is_expected, readable_front, two_bytes};
+use book::{Letter, check_block, fits_place, number_of, readable_front};
 use notation::{Mode, Symbol};
 use std::marker::PhantomData;
 
@@ -101,7 +102,7 @@ impl<'a, S: Symbol> Slip<'a, S> {
 
 /// Checks a whole slip, and tells its fields.
 fn check_slip<S: Symbol>(input: &[u8]) -> Result<Fields, SlipFault>
-    ensures { Checked S.kind input.now result }
+    ensures { MatchResult result (λ f. (slip_refusal S.kind input.now ≡ None) × (f.limit ≡ (asked input.now).limit) × (mode_number f.mode ≡ (asked input.now).mode) × (price_number f.price ≡ (asked input.now).price) × (f.notes ≡ slice_index input.now 10) × (length input.now ≡ 512) × (f.notes ≤ 64)) (λ f. slip_refusal S.kind input.now ≡ Some (slip_told f)) }
 {
     let bytes = input.len();
     let Some(block) = input.first_chunk::<512>() else {
@@ -120,7 +121,7 @@ fn check_fields<S: Symbol>(block: &[u8; 512]) -> Result<Fields, SlipFault>
     let Letter::Slip = check_block(0, block)? else {
         return Err(SlipFault::OutOfTurn);
     };
-    if !is_expected::<S>(0, block[1], two_bytes(block[2], block[3])) {
+    if !fits_place::<S>(0, block[1], number_of(block[2], block[3])) {
         return Err(SlipFault::Unexpected);
     }
     let Some(fields) = read_fields(block) else {
@@ -135,24 +136,25 @@ fn check_fields<S: Symbol>(block: &[u8; 512]) -> Result<Fields, SlipFault>
 }
 
 /// The fields of a slip block, where its length and they are as they should be.
-fn read_fields(block: &[u8; 512]) -> Option<Fields>
-    ensures { MatchOption result (slip_fields block.now ≡ false) (λ f. (slip_fields block.now ≡ true) × (f.limit ≡ (asked block.now).limit) × (mode_number f.mode ≡ (asked block.now).mode) × (price_number f.price ≡ (asked block.now).price) × (f.notes ≡ slice_index block.now 10) × (f.notes ≤ 64)) }
+fn read_fields(input: &[u8]) -> Option<Fields>
+    requires { length input.now ≡ 512 }
+    ensures { MatchOption result (slip_fields input.now ≡ false) (λ f. (slip_fields input.now ≡ true) × (f.limit ≡ (asked input.now).limit) × (mode_number f.mode ≡ (asked input.now).mode) × (price_number f.price ≡ (asked input.now).price) × (f.notes ≡ slice_index input.now 10) × (f.notes ≤ 64)) }
 {
-    let notes = block[10];
-    let limit = two_bytes(block[6], block[7]);
-    if two_bytes(block[4], block[5]) != 5 + u16::from(notes)
+    let notes = input[10];
+    let limit = number_of(input[6], input[7]);
+    if number_of(input[4], input[5]) != 5 + u16::from(notes)
         || limit > 4095
         || notes < 1
         || notes > 64
     {
         return None;
     }
-    let mode = match block[8] {
+    let mode = match input[8] {
         0 => Mode::Untransposed,
         1 => Mode::AnyTransposition,
         _ => return None,
     };
-    let price = match block[9] {
+    let price = match input[9] {
         1 => PriceKind::Changes,
         2 => PriceKind::ChangesThenSilence,
         _ => return None,

@@ -38,7 +38,7 @@ returns-then-front-notes g c =
     let b = c.args.block.now in
     let own = c.in_ok-check_block.ensures in
     let fields = c.in-Some.ensures in
-    slip_symbols k b c.told-block own.0 (sym own.1 ∙ ap letter_byte c.in-Slip.is) (here k b c.two_bytes.result c.two_bytes.ensures c.if-not-is_expected.ensures) fields.0
+    slip_symbols k b c.told-block own.0 (sym own.1 ∙ ap letter_byte c.in-Slip.is) (here k b c.number_of.result c.number_of.ensures c.if-not-fits_place.ensures) fields.0
     ∙ stops k b c.in-Some.fields.notes c.readable_front-front.result c.told-block fields.4 fields.5 c.readable_front-front.ensures c.if-front-notes.true
 
 pub returns : goal.returns
@@ -47,7 +47,7 @@ returns g c =
     let b = c.args.block.now in
     let own = c.in_ok-check_block.ensures in
     let fields = c.in-Some.ensures in (
-      slip_symbols k b c.told-block own.0 (sym own.1 ∙ ap letter_byte c.in-Slip.is) (here k b c.two_bytes.result c.two_bytes.ensures c.if-not-is_expected.ensures) fields.0
+      slip_symbols k b c.told-block own.0 (sym own.1 ∙ ap letter_byte c.in-Slip.is) (here k b c.number_of.result c.number_of.ensures c.if-not-fits_place.ensures) fields.0
           ∙ passes k b c.in-Some.fields.notes c.readable_front-front.result c.told-block fields.4 fields.5 c.readable_front-front.ensures c.if-front-notes.false,
       fields.1,
       fields.2,
