@@ -35,7 +35,7 @@ CLAUSES = {
     ("candidates", "refill"): {"in_bounds": "some_note", "want_len": "want_long", "roomy": "room_prices", "roomy_2": "room_steps", "roomy_3": "room_entries"},
     ("pieces", "place_of"): {"le_tracks": "some_track", "place_bound": "place_small"},
     ("pieces", "lone"): {"le_tracks": "some_track", "place_bound": "place_small"},
-    ("pieces", "write_pieces"): {"in_bounds": "some_note", "want_in_bounds": "room_list", "want_in_bounds_2": "room_steps", "first_value": "first_is"},
+    ("pieces", "write_pieces"): {"in_bounds": "some_note", "want_in_bounds": "room_list", "want_in_bounds_2": "room_steps", "first_value": "first_is", "offset_value": "first_is"},
     ("row", "price_at"): {"cells_in_bounds": "room"},
     ("row", "take_in"): {"cells_in_bounds": "room", "from_bound": "from_small", "start_in_bounds": "start_within", "rest_value": "start_marked"},
     ("row", "fill_row"): {"cells_bound": "rows_apart", "cells_in_bounds": "room_prices", "cells_in_bounds_2": "room_steps", "cells_in_bounds_3": "room_entries", "mark": "marked", "mark_2": "next_marked"},

@@ -8,6 +8,7 @@ ghost use Rattle.search.specs.Questions.{Granted};
 
 use super::candidates::settle;
 use super::pieces::{place_of, write_pieces};
+use super::row::Row;
 use super::rows::first_offset;
 use super::table::{Ground, count_later, link_places};
 use notation::{Mode, Symbol};
@@ -38,8 +39,13 @@ fn answer_from<S: Symbol, P: Price>(
     let Some(best) = found else {
         return Answer::None;
     };
-    let offset = first_offset(counts, want);
-    let count = write_pieces::<S, P>(ground, counts, want, offset, steps, best.place, list);
+    let byte = want[0];
+    let first = Row {
+        byte,
+        start: last[byte as usize] as usize,
+        offset: first_offset(counts, want),
+    };
+    let count = write_pieces::<S, P>(ground, counts, want, first, steps, best.place, list);
     Answer::Found(Found {
         price: best.price,
         count,

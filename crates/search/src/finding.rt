@@ -7,7 +7,7 @@ ghost use Rattle.search.specs.Questions.{grid_question, question_refusal, Sized,
 use super::answering::answer;
 use super::fault::{ListFault, QueryFault, QuestionFault};
 use super::query::check_list;
-use super::size::{size_asked, size_checked};
+use super::size;
 use book::Grid;
 use notation::{Mode, Symbol};
 use price::{Entry, Price};
@@ -28,7 +28,7 @@ pub fn workspace_size<S: Symbol>(
 ) -> Result<usize, QueryFault>
     ensures { (limit : ℕ) → Sized (grid_question S.kind S.byte grid.now limit mode query.now) result }
 {
-    size_checked(grid.symbols(), mode, query)
+    size::workspace_size(grid.symbols(), mode, query)
 }
 
 // Checks a question: its query and its list, then each of its sheets against the workspace. No
@@ -45,7 +45,7 @@ fn check_question<S: Symbol>(
     ensures { MatchResult result (λ _. question_refusal (grid_question S.kind S.byte grid.now 0 mode query.now) list prices window steps ≡ None) (λ f. question_refusal (grid_question S.kind S.byte grid.now 0 mode query.now) list prices window steps ≡ Some (question_told f)) }
 {
     check_list(query, list)?;
-    let size = size_asked(grid.symbols(), mode, query);
+    let size = size::size_asked(grid.symbols(), mode, query);
     if !all_hold(size, prices, window, steps) {
         return Err(QuestionFault::ShortSheet { size });
     }

@@ -10,6 +10,7 @@ ghost use Rattle.search.specs.Topmost.{place_at};
 ghost use Rattle.search.specs.Trails.{Trail, Written, Leading};
 
 use super::choosing::GOING_ON;
+use super::row::Row;
 use super::table::Ground;
 use notation::Symbol;
 use price::Price;
@@ -42,13 +43,13 @@ fn lone(tracks: usize, first: usize, place: usize) -> Piece
     }
 }
 
-// Follows the steps of the rows from a place of the first note, whose row begins at an offset,
-// writes the pieces that they lead through into the front of the list, and tells their number.
+// Follows the steps of the rows from a place of the first note, whose row is given, writes the
+// pieces that they lead through into the front of the list, and tells their number.
 pub(crate) fn write_pieces<S: Symbol, P: Price>(
     ground: Ground<S>,
     counts: &[u32; 256],
     want: &[u8],
-    first: usize,
+    first: Row,
     steps: &[u32],
     start: usize,
     list: &mut [Piece],
@@ -58,12 +59,12 @@ pub(crate) fn write_pieces<S: Symbol, P: Price>(
     requires some_note { 1 ≤ length want.now }
     requires room_list { length want.now ≤ length list.old }
     requires room_steps { sum_by (λ b. count_by (nat_eq b) (map S.byte ground.cells.now)) want.now ≤ length steps.now }
-    requires first_is { first ≡ offset_of (map S.byte ground.cells.now) want.now 0 }
+    requires first_is { first.offset ≡ offset_of (map S.byte ground.cells.now) want.now 0 }
     requires leading { Leading P.pricing P.meaning (map S.byte ground.cells.now) ground.tracks want.now steps.now start }
     ensures { (ask : Question) (c : ℤ) (prices : List (Option P)) (a : P) → Trail P.pricing P.meaning (map S.byte ground.entry.cells.now) ground.entry.tracks want.now steps.now start ask c prices a → Written P.pricing ask c (place_at ground.entry.tracks start) (P.meaning a) result list.old list.new }
 {
     let mut note = 0;
-    let mut offset = first;
+    let mut offset = first.offset;
     let mut place = start;
     let mut open = lone(ground.tracks, 1, start);
     let mut count = 0;

@@ -102,7 +102,7 @@ pub(crate) fn size_asked<S: Symbol>(cells: &[S], mode: Mode, query: &[S]) -> usi
 }
 
 // The same, where the query is not refused.
-pub(crate) fn size_checked<S: Symbol>(
+pub(crate) fn workspace_size<S: Symbol>(
     cells: &[S],
     mode: Mode,
     query: &[S],

@@ -22,7 +22,7 @@ write_pieces-count-requires g c =
     let trail = settled_trail bytes query g.S.Symbol.kind c.args.mode c.args.limit c.args.ground.tracks g.P.Price.pricing g.met.P.Price.lawful g.P.Price.meaning granted.ask granted.asked want prices steps o settled in
     let room = settled_room bytes query g.S.Symbol.kind c.args.mode c.args.limit c.args.ground.tracks g.P.Price.pricing g.met.P.Price.lawful g.P.Price.meaning granted.ask granted.asked want prices steps o settled granted.some_track g.met.S.Symbol.lawful granted.some_note c.args.counts.now ready.counted in
     let n = length-map c.args.query.now g.S.Symbol.byte in
-    record { surveyed = ready.surveyed; counted = ready.counted; some_note = omega (arith, c.settle-found.auto.want, ready.as_long, ready.some); room_list = omega (arith, c.settle-found.auto.want, ready.as_long, granted.room_list); room_steps = omega (arith, c.settle-found.auto.steps, ready.room_steps, room); first_is = c.first_offset-offset.ensures bytes ready.counted; leading = (granted.ask, o.shift, prices, o.price, trail) }
+    record { surveyed = ready.surveyed; counted = ready.counted; some_note = omega (arith, c.settle-found.auto.want, ready.as_long, ready.some); room_list = omega (arith, c.settle-found.auto.want, ready.as_long, granted.room_list); room_steps = omega (arith, c.settle-found.auto.steps, ready.room_steps, room); first_is = c.first_offset.ensures bytes ready.counted; leading = (granted.ask, o.shift, prices, o.price, trail) }
 
 pub place_of-requires : goal.place_of-requires
 place_of-requires g c =

@@ -1,7 +1,7 @@
 use Rattle.std.proofs.Common.{map, arith}
 use Rattle.std.proofs.lemmas.List.{length-map}
 use Rattle.search.proofs.Refusing.{sound}
-use Rattle.search.proofs.size.size_checked.Goals as goal
+use Rattle.search.proofs.size.workspace_size.Goals as goal
 
 pub size_asked-requires : goal.size_asked-requires
 size_asked-requires g c =
