@@ -31,6 +31,7 @@ CLAUSES = {
     ("sealing", "seal"): {"out_len": "whole_block", "len_bound": "payload_fits"},
     ("writer", "write_block"): {"out_len": "whole_block", "symbols_len_bound": "payload_fits"},
     ("writer", "write_columns"): {"blocks_in_bounds": "room", "a_block_bound": "small"},
+    ("slip_writer", "put_slip"): {"out_len": "whole_block", "query_len_bound": "few_notes"},
     ("filling", "copy_symbols"): {"le_tracks": "some_track", "count_in_bounds": "room"},
     ("candidates", "refill"): {"in_bounds": "some_note", "want_len": "want_long", "roomy": "room_prices", "roomy_2": "room_steps", "roomy_3": "room_entries"},
     ("pieces", "place_of"): {"le_tracks": "some_track", "place_bound": "place_small"},
