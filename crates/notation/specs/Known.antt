@@ -1,5 +1,5 @@
 -- The three kinds of this repository, each settled once.
-use Rattle.std.specs.Prelude.{ℕ, Bool, cond, ◌&&◌, ◌||◌, ltb, ℤ, pos, ◌-ℤ◌, Some, None, Option, ◌==◌, nat_lt}
+use Rattle.std.specs.Prelude.{ℕ, Bool, cond, ◌&&◌, ◌||◌, ℤ, pos, ◌-ℤ◌, Some, None, Option, ◌==◌, nat_lt}
 use Rattle.std.specs.Int.{int_rem_euclid}
 use Rattle.notation.specs.declared.Following.TheVariants.{Sum, SumModulo12, Zero}
 use Rattle.notation.specs.Kind.{Kind}
@@ -14,7 +14,7 @@ pitch =
     record {
       number = 1;
       code = λ a. nat_lt a 128;
-      interval = between (λ a. ltb a 128) (λ a b. Some (pos b -ℤ pos a));
+      interval = between (λ a. nat_lt a 128) (λ a b. Some (pos b -ℤ pos a));
       following = Sum;
     }
 
@@ -24,7 +24,7 @@ pitch_class =
     record {
       number = 2;
       code = λ a. nat_lt a 12;
-      interval = between (λ a. ltb a 12) (λ a b. Some (int_rem_euclid (pos b -ℤ pos a) (pos 12)));
+      interval = between (λ a. nat_lt a 12) (λ a b. Some (int_rem_euclid (pos b -ℤ pos a) (pos 12)));
       following = SumModulo12;
     }
 
@@ -34,7 +34,7 @@ stroke =
     record {
       number = 3;
       code = λ a. nat_lt a 64;
-      interval = between (λ a. ltb a 64) (λ a b. cond (a == b) (Some (pos 0)) None);
+      interval = between (λ a. nat_lt a 64) (λ a b. cond (a == b) (Some (pos 0)) None);
       following = Zero;
     }
 

@@ -1,3 +1,5 @@
 pub mod Kind
 pub mod Known
+pub mod Modes
+pub mod Kinds
 pub mod Laws

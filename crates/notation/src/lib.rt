@@ -1,31 +1,29 @@
 //! Symbols of a score and the intervals between them.
 #![tactic(auto)]
 
+mod code;
+mod mode;
 mod pitch;
 mod pitch_class;
 mod stroke;
+mod symbol_kind;
 
 ghost use Rattle.std.specs.Prelude.{◌≡◌, ℕ, T, ℤ, Some, MatchOption, ◌≢◌};
-ghost use Rattle.notation.specs.Kind.{Kind, Lawful, readable};
+ghost use Rattle.notation.specs.Kind.{Kind, Lawful, readable, rest};
 
+pub use mode::{Mode, UnknownMode};
 pub use pitch::Pitch;
 pub use pitch_class::PitchClass;
 pub use stroke::Stroke;
+pub use symbol_kind::{SymbolKind, UnknownKind};
 
 /// How one interval follows another in a kind: by their sum, by their sum modulo 12, or by zero
 /// whatever they are.
-#[derive(Clone, Copy)]
+#[derive(Clone, Copy, Debug, PartialEq, Eq)]
 pub enum Following {
     Sum,
     SumModulo12,
     Zero,
-}
-
-/// Which transpositions are admitted: none but the untransposed query, or every one.
-#[derive(Clone, Copy)]
-pub enum Mode {
-    Untransposed,
-    AnyTransposition,
 }
 
 /// A kind of symbol. Its meaning is the record `kind`, and a symbol is told by its byte: a code
@@ -42,6 +40,16 @@ pub trait Symbol: Copy {
     /// The symbol of a byte: each code and 255 has one, no other byte.
     fn read(b: u8) -> Option<Self>
         ensures { MatchOption result (T (readable kind b) → ⊥) (λ s. byte s ≡ b) };
+
+    /// The rest of the kind.
+    fn rest() -> Self
+        ensures { byte result ≡ rest }
+    {
+        match Self::read(255) {
+            Some(symbol) => symbol,
+            None => unreachable(),
+        }
+    }
 
     /// The byte of the symbol: the one that it is read from.
     fn write(self) -> u8

@@ -1,22 +1,20 @@
-ghost use Rattle.std.specs.Prelude.{T};
-ghost use Rattle.notation.specs.Kind.{readable};
 ghost use Rattle.notation.specs.Known.{pitch};
 ghost use Rattle.notation.specs.Laws.{pitch_lawful};
 ghost use Rattle.std.proofs.Common.{rules, arith};
 
+use super::code::Code;
 use super::{Following, Symbol};
 
 /// A pitch in semitones, or a rest.
-#[derive(Clone, Copy)]
+#[derive(Clone, Copy, Debug, PartialEq, Eq)]
 pub struct Pitch {
-    code: u8,
-    ghost read: { T (readable pitch code) },
+    code: Code<128>,
 }
 
 impl Symbol for Pitch {
     ghost kind = { pitch };
 
-    ghost byte = { λ s. s.code };
+    ghost byte = { λ s. s.code.byte };
 
     ghost lawful = { pitch_lawful };
 
@@ -27,23 +25,18 @@ impl Symbol for Pitch {
     }
 
     fn read(b: u8) -> Option<Pitch> {
-        if b < 128 || b == 255 {
-            Some(Pitch { code: b })
-        } else {
-            None
-        }
+        Some(Pitch {
+            code: Code::read(b)?,
+        })
     }
 
     fn write(self) -> u8 {
-        self.code
+        self.code.byte()
     }
 
     fn interval(self, to: Pitch) -> Option<i32> {
-        if self.code < 128 && to.code < 128 {
-            Some(to.code as i32 - self.code as i32)
-        } else {
-            None
-        }
+        let from = self.code.sounding()?;
+        Some(to.code.sounding()? - from)
     }
 
     fn following() -> Following {
@@ -51,13 +44,9 @@ impl Symbol for Pitch {
     }
 
     fn transposed(self, by: i32) -> Option<Pitch> {
-        if self.code >= 128 || by < -127 || by > 127 {
-            return None;
-        }
-        let code = self.code as i32 + by;
-        if code < 0 || code >= 128 {
-            return None;
-        }
-        Some(Pitch { code: code as u8 })
+        let code = self.code.sounding()?.checked_add(by)?;
+        Some(Pitch {
+            code: Code::of(code)?,
+        })
     }
 }

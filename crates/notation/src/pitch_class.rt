@@ -1,22 +1,20 @@
-ghost use Rattle.std.specs.Prelude.{T};
-ghost use Rattle.notation.specs.Kind.{readable};
 ghost use Rattle.notation.specs.Known.{pitch_class};
 ghost use Rattle.notation.specs.Laws.{class_lawful};
 ghost use Rattle.std.proofs.Common.{rules, arith};
 
+use super::code::Code;
 use super::{Following, Symbol};
 
 /// One of the twelve notes of the octave, or a rest.
-#[derive(Clone, Copy)]
+#[derive(Clone, Copy, Debug, PartialEq, Eq)]
 pub struct PitchClass {
-    code: u8,
-    ghost read: { T (readable pitch_class code) },
+    code: Code<12>,
 }
 
 impl Symbol for PitchClass {
     ghost kind = { pitch_class };
 
-    ghost byte = { λ s. s.code };
+    ghost byte = { λ s. s.code.byte };
 
     ghost lawful = { class_lawful };
 
@@ -27,23 +25,18 @@ impl Symbol for PitchClass {
     }
 
     fn read(b: u8) -> Option<PitchClass> {
-        if b < 12 || b == 255 {
-            Some(PitchClass { code: b })
-        } else {
-            None
-        }
+        Some(PitchClass {
+            code: Code::read(b)?,
+        })
     }
 
     fn write(self) -> u8 {
-        self.code
+        self.code.byte()
     }
 
     fn interval(self, to: PitchClass) -> Option<i32> {
-        if self.code < 12 && to.code < 12 {
-            Some((to.code as i32 - self.code as i32).rem_euclid(12))
-        } else {
-            None
-        }
+        let from = self.code.sounding()?;
+        Some((to.code.sounding()? - from).rem_euclid(12))
     }
 
     fn following() -> Following {
@@ -51,10 +44,12 @@ impl Symbol for PitchClass {
     }
 
     fn transposed(self, by: i32) -> Option<PitchClass> {
-        if self.code >= 12 || by < 0 || by > 11 {
+        let from = self.code.sounding()?;
+        if by < 0 || by > 11 {
             return None;
         }
-        let code = (self.code as i32 + by) % 12;
-        Some(PitchClass { code: code as u8 })
+        Some(PitchClass {
+            code: Code::of((from + by) % 12)?,
+        })
     }
 }

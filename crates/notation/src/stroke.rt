@@ -1,22 +1,20 @@
-ghost use Rattle.std.specs.Prelude.{T};
-ghost use Rattle.notation.specs.Kind.{readable};
 ghost use Rattle.notation.specs.Known.{stroke};
 ghost use Rattle.notation.specs.Laws.{stroke_lawful};
 ghost use Rattle.std.proofs.Common.{rules, arith};
 
+use super::code::Code;
 use super::{Following, Symbol};
 
 /// A stroke on an instrument without pitch, or a rest.
-#[derive(Clone, Copy)]
+#[derive(Clone, Copy, Debug, PartialEq, Eq)]
 pub struct Stroke {
-    code: u8,
-    ghost read: { T (readable stroke code) },
+    code: Code<64>,
 }
 
 impl Symbol for Stroke {
     ghost kind = { stroke };
 
-    ghost byte = { λ s. s.code };
+    ghost byte = { λ s. s.code.byte };
 
     ghost lawful = { stroke_lawful };
 
@@ -27,19 +25,17 @@ impl Symbol for Stroke {
     }
 
     fn read(b: u8) -> Option<Stroke> {
-        if b < 64 || b == 255 {
-            Some(Stroke { code: b })
-        } else {
-            None
-        }
+        Some(Stroke {
+            code: Code::read(b)?,
+        })
     }
 
     fn write(self) -> u8 {
-        self.code
+        self.code.byte()
     }
 
     fn interval(self, to: Stroke) -> Option<i32> {
-        if self.code < 64 && self.code == to.code {
+        if self.code.sounding()? == to.code.sounding()? {
             Some(0)
         } else {
             None
@@ -51,10 +47,7 @@ impl Symbol for Stroke {
     }
 
     fn transposed(self, by: i32) -> Option<Stroke> {
-        if self.code < 64 && by == 0 {
-            Some(self)
-        } else {
-            None
-        }
+        self.code.sounding()?;
+        if by == 0 { Some(self) } else { None }
     }
 }
