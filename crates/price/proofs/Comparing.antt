@@ -1,14 +1,9 @@
 -- Comparing two entries from one position after another.
-use Rattle.std.proofs.Common.{◌≡◌, ℕ, zero, suc, ◌+◌, ◌-◌, ◌<◌, ◌≤◌, Bool, T, ◌⊎◌, subst, inl, inr, arith}
+use Rattle.std.proofs.Common.{◌≡◌, ℕ, zero, suc, ◌+◌, ◌-◌, ◌<◌, ◌≤◌, T, ◌⊎◌, subst, inl, inr, arith}
 use Rattle.price.specs.Pricing.{Pricing, Lawful}
 use Rattle.price.specs.History.{gap, cost, NoDearer}
-use Rattle.price.specs.Keeping.{Judged, StaysNoDearer}
+use Rattle.price.specs.Keeping.{StaysNoDearer}
 use Rattle.price.specs.declared.entry.Entry.{Entry}
-
--- a comparison of the same entries
-pub judged_same :
-    {P : Type 0} (p : Pricing) (meaning : P → p.Meaning) (from : ℕ) {e e' d d' : Entry P} {b b' : Bool} → e ≡ e' → d ≡ d' → b ≡ b' → Judged p meaning from e d b → Judged p meaning from e' d' b'
-judged_same p meaning from is-e is-d is_b j = subst (λ i. i) (λ z. Judged p meaning from (is-e z) (is-d z) (is_b z)) j
 
 module _ {P : Type 0} (p : Pricing) (meaning : P → p.Meaning) (laws : Lawful p) where
   abbrev Light : Entry P → Type 0

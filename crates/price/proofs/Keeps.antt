@@ -1,13 +1,15 @@
 -- What a window keeps as it moves, as entries leave at its front, and as one is put in.
-use Rattle.std.proofs.Common.{◌≡◌, ℕ, ◌+◌, ◌-◌, ◌<◌, ◌≤◌, Bool, true, false, cond, T, ltb, ◌⊎◌, List, [], ◌∷◌, ◌++◌, length, set, Some, None, sym, ◌∙◌, subst, inl, inr, arith}
+use Rattle.std.proofs.Common.{◌≡◌, ℕ, ◌+◌, ◌-◌, ◌<◌, ◌≤◌, true, false, if◌then◌else◌, nat_lt, T, ◌⊎◌, List, [], ◌∷◌, ◌++◌, length, set, Some, None, Option, refl, zero, suc, sym, ◌∙◌, subst, inl, inr, arith}
 use Rattle.std.specs.List.{slice_get}
-use Rattle.std.proofs.lemmas.Bool.{cases_lt, lt-ltb, le-ltb, cond-true, cond-false}
+use Rattle.std.proofs.lemmas.Bool.{cases_lt}
+use Rattle.std.proofs.lemmas.Bool.Decides.{nat_tests}
+use Rattle.std.proofs.lemmas.Option.{slice_get_within}
 use Rattle.std.proofs.lemmas.List.{length-set, length_push}
 use Rattle.price.specs.Pricing.{Pricing, Lawful}
 use Rattle.price.specs.History.{History, fresh, moved, put_in, Accepts, gap, Within, NoDearer, Shallow, Bounded, Least, Told}
 use Rattle.price.specs.Keeping.{Gone, StaysNoDearer, Covered, Kept, Judged}
 use Rattle.price.specs.declared.entry.Entry.{Entry}
-use Rattle.price.proofs.Spots.{nowhere, within, found, pushed_before, pushed_last, pushed_cases, written_here, written_elsewhere}
+use Rattle.price.proofs.Spots.{nowhere, found, pushed_before, pushed_last, pushed_cases, written_here, written_elsewhere}
 use Rattle.price.proofs.Comparing.{no_dearer_self, no_dearer_trans, no_dearer_total, stays}
 
 module _ {P : Type 0} (p : Pricing) (meaning : P → p.Meaning) where
@@ -104,9 +106,8 @@ module _ {P : Type 0} (p : Pricing) (meaning : P → p.Meaning) where
         front_left (λ i d e m _. let near = k.nearing i (k.index front) d f m e (k.stands front f (omega arith) l n) in inl (omega arith))
 
     -- since the next is no dearer
-    pub kept_tied : Lawful p → (e : Entry P) → front + 1 < back → slice_get xs (front + 1) ≡ Some e → (from : ℕ) → h.position ≡ from → (answer : Bool) → answer ≡ true → Judged p meaning from e f answer → Kept p meaning xs (front + 1) back h
-    kept_tied laws e l₁ m from at answer yea comparison =
-        let judged : Judged p meaning h.position e f true = subst (λ i. i) (λ z. Judged p meaning (sym at z) e f (yea z)) comparison in
+    pub kept_tied : Lawful p → (e : Entry P) → front + 1 < back → slice_get xs (front + 1) ≡ Some e → Judged p meaning h.position e f true → Kept p meaning xs (front + 1) back h
+    kept_tied laws e l₁ m judged =
         let at_f = k.stands front f (omega arith) l n in
         let at-e = k.stands (front + 1) e (omega arith) l₁ m in
         front_left
@@ -129,6 +130,21 @@ module _ {P : Type 0} (p : Pricing) (meaning : P → p.Meaning) where
               (cheap s from le (omega arith) gd);
         })
 
+  -- and so do those that stand before a place, one after the other
+  pub kept_passed :
+      (laws : Lawful p) (xs : List (Entry P)) (front back : ℕ) (h : History P) → Kept p meaning xs front back h → (n : ℕ) → front + n ≤ back →
+      ((a : ℕ) (f : Entry P) → a < n → slice_get xs (front + a) ≡ Some f → (h.limit < gap h.position f) ⊎ ((e : Entry P) × (front + a + 1 < back) × (slice_get xs (front + a + 1) ≡ Some e) × Judged p meaning h.position e f true)) →
+      Kept p meaning xs (front + n) back h
+  kept_passed laws xs front back h k zero l over = subst (λ a. Kept p meaning xs a back h) (omega arith) k
+  kept_passed laws xs front back h k (suc n) l over =
+      let before = kept_passed laws xs front back h k n (omega arith) (λ a f m. over a f (omega arith)) in
+      let here = found xs (front + n) (let i = k.inside in omega arith) in
+      subst (λ a. Kept p meaning xs a back h) (omega arith)
+      (elim (over n here.0 (omega arith) here.1) [
+        | inl far ↦ kept_gone xs (front + n) back h before (omega arith) here.0 here.1 (λ near. omega arith)
+        | inr e ↦ kept_tied xs (front + n) back h before (omega arith) here.0 here.1 laws e.0 e.1 e.2 e.3
+      ])
+
   shallow_before : (h : History P) (from : ℕ) (e : Entry P) → Shallow p meaning (put_in h from e) → Shallow p meaning h
   shallow_before h from e s i d n = s i d (pushed_before h.puts e i d n)
 
@@ -141,13 +157,13 @@ module _ {P : Type 0} (p : Pricing) (meaning : P → p.Meaning) where
     xs' = set xs place e
 
     abbrev index' : ℕ → ℕ
-    index' a = cond (ltb a place) (k.index a) (length h.puts)
+    index' a = if nat_lt a place then k.index a else length h.puts
 
     index_before : (a : ℕ) → a < place → index' a ≡ k.index a
-    index_before a l = cond-true (ltb a place) (k.index a) (length h.puts) (lt-ltb a place l)
+    index_before a l = grind (arith, nat_tests)
 
     index_here : index' place ≡ length h.puts
-    index_here = cond-false (ltb place place) (k.index place) (length h.puts) (le-ltb place place (omega arith))
+    index_here = grind (arith, nat_tests)
 
     spot_before : (a : ℕ) (d : Entry P) → a < place → slice_get xs' a ≡ Some d → slice_get xs a ≡ Some d
     spot_before a d l n = sym (written_elsewhere xs place a e (λ q. absurd (omega arith))) ∙ n
@@ -190,7 +206,7 @@ module _ {P : Type 0} (p : Pricing) (meaning : P → p.Meaning) where
                 from_front = low;
                 to_back = omega arith;
                 stands = written_here xs place e room;
-                later = let x = within h.puts i d n in omega (arith, index_here);
+                later = let x = slice_get_within h.puts i d n in omega (arith, index_here);
                 cheap =
                     λ s f le ge gd.
                     let light = shallow_before h from e s in
@@ -251,7 +267,7 @@ module _ {P : Type 0} (p : Pricing) (meaning : P → p.Meaning) where
                 | inl m' ↦
                     elim (pushed_cases h.puts e i d n) [
                       | inl m ↦ k.nearing i j d d' l m m'
-                      | inr m ↦ let b = within h.puts j d' m' in absurd (omega (arith, m.0))
+                      | inr m ↦ let b = slice_get_within h.puts j d' m' in absurd (omega (arith, m.0))
                     ]
                 | inr m' ↦
                     elim (pushed_cases h.puts e i d n) [
@@ -269,7 +285,7 @@ module _ {P : Type 0} (p : Pricing) (meaning : P → p.Meaning) where
                     let same : b ≡ place = omega arith in
                     let y : index' b ≡ length h.puts = subst (λ v. index' v ≡ length h.puts) (sym same) index_here in
                     let o = found xs a (omega arith) in
-                    let z = within h.puts (k.index a) o.0 (k.stands a o.0 l (omega arith) o.1) in
+                    let z = slice_get_within h.puts (k.index a) o.0 (k.stands a o.0 l (omega arith) o.1) in
                     omega arith
               ];
           stands =
@@ -376,3 +392,13 @@ module _ {P : Type 0} (p : Pricing) (meaning : P → p.Meaning) where
           least = λ b i d n w. elim (k.covered i d n) [ inl g ↦ absurd (omega arith) | inr c ↦ no_cheaper b i d n w c ];
           latest = λ b i d n w m t. elim (k.covered i d n) [ inl g ↦ absurd (omega arith) | inr c ↦ later_dearer b i d n w c m t ];
         }
+
+  -- the front is told if there is one
+  pub told_first :
+      (laws : Lawful p) (xs : List (Entry P)) (front back : ℕ) (h : History P) → Kept p meaning xs front back h → (told : Option (Entry P)) →
+      (told ≡ None → back ≤ front) →
+      ((e : Entry P) → told ≡ Some e → (front < back) × (slice_get xs front ≡ Some e) × (gap h.position e ≤ h.limit)) →
+      ((e d : Entry P) → slice_get xs front ≡ Some e → front + 1 < back → slice_get xs (front + 1) ≡ Some d → Judged p meaning h.position d e false) →
+      Told p meaning h told
+  told_first laws xs front back h k None none some dearer = told_none xs front back h k (none refl)
+  told_first laws xs front back h k (Some e) none some dearer = let s = some e refl in told_front laws xs front back h k s.0 e s.1 s.2 (λ d. dearer e d s.1)

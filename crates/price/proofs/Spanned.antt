@@ -1,24 +1,24 @@
 -- The span in use as a window is made, as an entry is put in, and as the window moves.
-use Rattle.std.proofs.Common.{◌≡◌, ℕ, ◌<◌, ◌≤◌, min, List, length, refl, subst, inl, inr, arith}
+use Rattle.std.proofs.Common.{◌≡◌, ℕ, ◌<◌, ◌≤◌, List, length, ◌∙◌, subst, inl, inr, arith}
 use Rattle.std.proofs.lemmas.Bool.{cases_lt}
 use Rattle.price.specs.Pricing.{Pricing}
 use Rattle.price.specs.History.{History, fresh, moved, put_in, Accepts}
 use Rattle.price.specs.Keeping.{Kept}
-use Rattle.price.specs.Spanning.{Takes, Spans}
+use Rattle.price.specs.Spanning.{Starts, Takes, Spans}
 use Rattle.price.specs.declared.entry.Entry.{Entry}
 use Rattle.price.specs.declared.span.Span.{Span}
 use Rattle.price.proofs.Spots.{nowhere, pushed_cases, pushed_last}
-use Rattle.price.proofs.Keeps.{kept_none, kept_moved}
+use Rattle.price.proofs.Keeps.{kept_none}
 
 module _ {P : Type 0} (p : Pricing) (meaning : P → p.Meaning) (xs : List (Entry P)) where
-  pub spans_none : (memory limit : ℕ) → Spans p meaning xs record { front = 0; back = 0; position = 4294967295; last = 4294967295; limit = limit } (fresh memory limit)
-  spans_none memory limit =
+  pub spans_none : (s : Span) (memory limit : ℕ) → Starts s limit → Spans p meaning xs s (fresh memory limit)
+  spans_none s memory limit start =
       record {
-        limit = refl;
-        position = refl;
+        limit = start.limit;
+        position = start.position;
         lowest = λ i d e. absurd (nowhere d e);
-        reached = inl refl;
-        kept = kept_none p meaning xs memory limit;
+        reached = inl start.last;
+        kept = rw (start.front, start.back) (kept_none p meaning xs memory limit);
       }
 
   module _ (s : Span) (h : History P) (old : Spans p meaning xs s h) (from : ℕ) where
@@ -49,19 +49,22 @@ module _ {P : Type 0} (p : Pricing) (meaning : P → p.Meaning) (xs : List (Entr
           | inr full ↦ (full, omega (arith, old.kept.few))
         ]
 
-    pub spans_put : (e : Entry P) → Accepts h from e → (ys : List (Entry P)) (back : ℕ) → Kept p meaning ys s.front back (put_in h from e) → Spans p meaning ys record { front = s.front; back = back; position = from; last = e.position; limit = s.limit } (put_in h from e)
-    spans_put e a ys back k =
+    pub spans_put : (e : Entry P) → Accepts h from e → (ys : List (Entry P)) (s' : Span) → s'.limit ≡ s.limit → s'.position ≡ from → s'.last ≡ e.position → Kept p meaning ys s'.front s'.back (put_in h from e) → Spans p meaning ys s' (put_in h from e)
+    spans_put e a ys s' limit position last k =
         record {
-          limit = old.limit;
-          position = refl;
-          lowest = λ i d n. elim (pushed_cases h.puts e i d n) [ inl m ↦ a.nearest i d m | inr m ↦ subst (λ x. e.position ≤ x.position) m.1 (omega arith) ];
-          reached = inr (length h.puts, e, pushed_last h.puts e, refl);
+          limit = limit ∙ old.limit;
+          position = position;
+          lowest = λ i d n. elim (pushed_cases h.puts e i d n) [ inl m ↦ (let l = a.nearest i d m in omega arith) | inr m ↦ subst (λ x. s'.last ≤ x.position) m.1 (omega arith) ];
+          reached = inr (length h.puts, e, pushed_last h.puts e, last);
           kept = k;
         }
 
-    -- the kept entries end within the memory
-    pub kept_within : (back : ℕ) → back ≡ min s.back (length xs) → from ≤ h.position → Kept p meaning xs s.front back (moved h from)
-    kept_within back is onward = subst (λ b. Kept p meaning xs s.front b (moved h from)) (omega (arith, old.kept.inside)) (kept_moved p meaning xs s.front s.back from h onward old.kept)
-
-    pub spans_moved : (front back : ℕ) → Kept p meaning xs front back (moved h from) → Spans p meaning xs record { front = front; back = back; position = from; last = s.last; limit = s.limit } (moved h from)
-    spans_moved front back k = record { limit = old.limit; position = refl; lowest = old.lowest; reached = old.reached; kept = k }
+    pub spans_moved : (s' : Span) → s'.limit ≡ s.limit → s'.position ≡ from → s'.last ≡ s.last → Kept p meaning xs s'.front s'.back (moved h from) → Spans p meaning xs s' (moved h from)
+    spans_moved s' limit position last k =
+        record {
+          limit = limit ∙ old.limit;
+          position = position;
+          lowest = λ i d e. let l = old.lowest i d e in omega arith;
+          reached = elim old.reached [ inl top ↦ inl (last ∙ top) | inr at ↦ inr (at.0, at.1, at.2, last ∙ at.3) ];
+          kept = k;
+        }

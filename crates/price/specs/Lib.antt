@@ -6,4 +6,3 @@ pub mod History
 pub mod Keeping
 pub mod Spanning
 pub mod Answers
-pub mod Laws

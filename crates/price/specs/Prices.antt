@@ -1,10 +1,10 @@
 -- The two prices of this repository, each settled once.
-use Rattle.std.specs.Prelude.{ℕ, ◌+◌, ◌/◌, max, Bool, ◌&&◌, ◌||◌, leb, ◌==◌, nat_le, nat_lt}
+use Rattle.std.specs.Prelude.{ℕ, ◌+◌, ◌/◌, max, Bool, ◌&&◌, ◌||◌, ◌==◌, nat_le, nat_lt}
 use Rattle.price.specs.Pricing.{Pricing}
 
 -- by the number of hand-overs
 abbrev pub by_changes : Pricing
-by_changes = record { Meaning = ℕ; depth = λ n. n; nothing = 0; charged = λ n g. n + 1; not_above = leb }
+by_changes = record { Meaning = ℕ; depth = λ n. n; nothing = 0; charged = λ n g. n + 1; not_above = nat_le }
 
 -- hand-overs, and the sum of their gaps
 pub record Tally : Type 0 where

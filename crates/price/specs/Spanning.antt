@@ -7,6 +7,14 @@ use Rattle.price.specs.Keeping.{Kept}
 use Rattle.price.specs.declared.entry.Entry.{Entry}
 use Rattle.price.specs.declared.span.Span.{Span}
 
+-- nothing is kept, and every position is still to come
+pub record Starts (s : Span) (widest : ℕ) : Type 0 where
+  pub front : s.front ≡ 0
+  pub back : s.back ≡ 0
+  pub position : s.position ≡ 4294967295
+  pub last : s.last ≡ 4294967295
+  pub limit : s.limit ≡ widest
+
 -- an entry at a position may be put in
 pub record Takes (s : Span) (from position memory : ℕ) : Type 0 where
   pub onward : from ≤ s.position

@@ -1,14 +1,15 @@
 //! The price that counts changes.
 
 ghost use Rattle.std.specs.Prelude.{◌≡◌};
+ghost use Rattle.std.proofs.Common.{arith};
+ghost use Rattle.std.proofs.lemmas.Bool.Decides.{nat_tests};
 ghost use Rattle.price.specs.Prices.{by_changes};
 ghost use Rattle.price.specs.Meanings.{changes_of};
-ghost use Rattle.price.specs.Laws.{changes_lawful};
 
 use super::Price;
 
 /// The number of hand-overs.
-#[derive(Clone, Copy)]
+#[derive(Clone, Copy, Debug, PartialEq, Eq, PartialOrd, Ord)]
 pub struct Changes {
     count: u32,
 }
@@ -27,7 +28,7 @@ impl Price for Changes {
 
     ghost meaning = { changes_of };
 
-    ghost lawful = { changes_lawful };
+    ghost lawful = { Prim.grind (arith, nat_tests) };
 
     fn empty() -> Changes {
         Changes { count: 0 }
@@ -41,6 +42,6 @@ impl Price for Changes {
     }
 
     fn not_above(self, other: Changes) -> bool {
-        other.count >= self.count
+        self <= other
     }
 }

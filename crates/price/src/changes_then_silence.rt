@@ -1,15 +1,16 @@
 //! The price that counts changes and then silence.
 
 ghost use Rattle.std.specs.Prelude.{◌≡◌};
+ghost use Rattle.std.proofs.Common.{arith};
+ghost use Rattle.std.proofs.lemmas.Bool.Decides.{nat_tests};
 ghost use Rattle.price.specs.Prices.{by_changes_then_silence};
 ghost use Rattle.price.specs.Meanings.{tally_of};
-ghost use Rattle.price.specs.Laws.{changes_then_silence_lawful};
 
 use super::Price;
 
 /// The number of hand-overs, and the silence: the sum of their gaps. Fewer changes are cheaper,
 /// and of as many the one with less silence.
-#[derive(Clone, Copy)]
+#[derive(Clone, Copy, Debug, PartialEq, Eq, PartialOrd, Ord)]
 pub struct ChangesThenSilence {
     changes: u32,
     silence: u32,
@@ -36,7 +37,7 @@ impl Price for ChangesThenSilence {
 
     ghost meaning = { tally_of };
 
-    ghost lawful = { changes_then_silence_lawful };
+    ghost lawful = { Prim.grind (arith, nat_tests) };
 
     fn empty() -> ChangesThenSilence {
         ChangesThenSilence {
@@ -54,8 +55,6 @@ impl Price for ChangesThenSilence {
     }
 
     fn not_above(self, other: ChangesThenSilence) -> bool {
-        let fewer = self.changes < other.changes;
-        let as_many = self.changes == other.changes;
-        fewer || (as_many && self.silence <= other.silence)
+        self <= other
     }
 }

@@ -1,6 +1,6 @@
 //! What the window holds.
 
-ghost use Rattle.std.specs.Prelude.{◌≡◌, ◌≤◌, Decides};
+ghost use Rattle.std.specs.Prelude.{◌≡◌, ◌≤◌, ◌↔◌, IsTrue};
 ghost use Rattle.price.specs.History.{gap};
 ghost use Rattle.price.specs.Keeping.{Judged};
 
@@ -8,7 +8,7 @@ use super::Price;
 
 /// A place at which the next piece may begin: its position, from which gaps are counted, its
 /// place in the score, and the price of the rest of the query from there.
-#[derive(Clone, Copy)]
+#[derive(Clone, Copy, Debug, PartialEq, Eq)]
 pub struct Entry<P> {
     pub position: u32,
     pub place: u32,
@@ -25,7 +25,7 @@ impl<P: Price> Entry<P> {
 
     // Whether a hand-over from `from` to here keeps the limit.
     pub(super) fn within(self, from: u32, limit: u32) -> bool
-        ensures { Decides result (gap from self ≤ limit) }
+        ensures { IsTrue result ↔ (gap from self ≤ limit) }
     {
         self.gap_from(from) <= limit
     }

@@ -33,11 +33,13 @@ pub trait Price: Copy {
     /// This price and one hand-over more, with its gap: the columns strictly between two pieces.
     /// Past the laws' bounds it is any price.
     fn charged(self, gap: u32) -> Self
-        ensures { pricing.depth (meaning self) ≤ 62 → gap ≤ 4094 → meaning result ≡ pricing.charged (meaning self) gap };
+        ensures { pricing.depth (meaning self) ≤ 62 → gap ≤ 4094 →
+            meaning result ≡ pricing.charged (meaning self) gap };
 
     /// Whether this price is no higher than the other.
     fn not_above(self, other: Self) -> bool
-        ensures { pricing.depth (meaning self) ≤ 63 → pricing.depth (meaning other) ≤ 63 → result ≡ pricing.not_above (meaning self) (meaning other) };
+        ensures { pricing.depth (meaning self) ≤ 63 → pricing.depth (meaning other) ≤ 63 →
+            result ≡ pricing.not_above (meaning self) (meaning other) };
 
     ghost lawful: { Lawful pricing };
 }

@@ -1,10 +1,9 @@
 //! The part of the window's memory that is in use.
 
-ghost use Rattle.std.specs.Prelude.{◌≡◌, ℕ, ◌+◌, ◌-◌, ◌<◌, ◌≤◌, true, false, length, Some, Decides};
-ghost use Rattle.std.specs.List.{slice_get};
+ghost use Rattle.std.specs.Prelude.{◌≡◌, ℕ, ◌+◌, ◌-◌, ◌<◌, ◌≤◌, true, false, length, ◌⊎◌, Some, ◌↔◌, IsTrue};
+ghost use Rattle.std.specs.List.{slice_get, slice_range};
 ghost use Rattle.price.specs.History.{History, moved, put_in, Accepts, gap, Told};
 ghost use Rattle.price.specs.Keeping.{Judged, Kept};
-ghost use Rattle.price.specs.Spanning.{Takes, Spans};
 
 use super::{Entry, Price};
 
@@ -18,12 +17,15 @@ pub(super) struct Span {
     position: u32,
     last: u32,
     limit: u32,
+    ghost ordered: { front ≤ back },
 }
 
 impl Span {
+    ghost use Rattle.price.specs.Spanning.{Starts, Takes, Spans};
+
     // Nothing kept, and every position still to come.
     pub(super) fn start(limit: u32) -> Span
-        ensures { result ≡ record { front = 0; back = 0; position = 4294967295; last = 4294967295; limit = limit } }
+        ensures { Starts result limit }
     {
         Span {
             front: 0,
@@ -36,113 +38,111 @@ impl Span {
 
     // Whether an entry at `position` may be put in from `from`, into memory for so many entries.
     pub(super) fn takes(self, from: u32, position: u32, memory: usize) -> bool
-        ensures { Decides result (Takes self from position memory) }
+        ensures { IsTrue result ↔ Takes self from position memory }
     {
         from <= self.position && from < position && position <= self.last && self.back < memory
     }
 
     // Whether `from` lies after the position reached.
     pub(super) fn has_passed(self, from: u32) -> bool
-        ensures { Decides result (self.position < from) }
+        ensures { IsTrue result ↔ (self.position < from) }
     {
         self.position < from
     }
-}
 
-// Where a new entry goes: behind the last one that is cheaper from here.
-fn place_of<P: Price>(entries: &[Entry<P>], span: Span, from: u32, near: Entry<P>) -> usize
-    requires { span.back ≤ length entries.now }
-    ensures high { result ≤ span.back }
-    ensures low { span.front ≤ span.back → span.front ≤ result }
-    ensures dropped { (a : ℕ) (d : Entry P) → result ≤ a → a < span.back → slice_get entries.now a ≡ Some d → Judged P.pricing P.meaning from near d true }
-    ensures stopped { (d : Entry P) → span.front < result → slice_get entries.now (result - 1) ≡ Some d → Judged P.pricing P.meaning from near d false }
-{
-    let mut place = span.back;
-    while place > span.front {
-        if !near.no_dearer(entries[place - 1], from) {
-            return place;
+    // The part of the memory that is in use.
+    fn kept<P>(self, entries: &[Entry<P>]) -> &[Entry<P>]
+        requires { self.back ≤ length entries.now }
+        ensures { result.now ≡ slice_range entries.now self.front self.back }
+    {
+        &entries[self.front..self.back]
+    }
+
+    // Puts an entry in the place of those that are no cheaper.
+    pub(super) fn keep<P: Price>(self, entries: &mut [Entry<P>], from: u32, near: Entry<P>) -> Span
+        requires { self.back < length entries.old }
+        ensures inside { result.back ≤ length entries.new }
+        ensures spans { (h : History P) → Spans P.pricing P.meaning entries.old self h →
+            Accepts h from near →
+            Spans P.pricing P.meaning entries.new result (put_in h from near) }
+    {
+        let place = self.front + cheaper(self.kept(entries), from, near);
+        entries[place] = near;
+        Span {
+            front: self.front,
+            back: place + 1,
+            position: from,
+            last: near.position,
+            limit: self.limit,
         }
-        place -= 1;
     }
-    place
+
+    // The span from `from` on, and the entry at its front.
+    // Stays: a slice in a field of `self` is not yet lent on as a `&`, so it comes as a `&mut`.
+    pub(super) fn lead<P: Price>(
+        self,
+        entries: &mut [Entry<P>],
+        from: u32,
+    ) -> (Span, Option<Entry<P>>)
+        requires { self.back ≤ length entries.old }
+        ensures same { entries.new ≡ entries.old }
+        ensures inside { result.0.back ≤ length entries.old }
+        ensures tells { (h : History P) → from ≤ h.position →
+            Spans P.pricing P.meaning entries.old self h →
+            Spans P.pricing P.meaning entries.old result.0 (moved h from)
+            × Told P.pricing P.meaning (moved h from) result.1 }
+    {
+        let kept = self.kept(entries);
+        let past = passed_over(kept, from, self.limit);
+        let led = Span {
+            front: self.front + past,
+            back: self.back,
+            position: from,
+            last: self.last,
+            limit: self.limit,
+        };
+        (led, kept.get(past).copied())
+    }
 }
 
-// Puts an entry in the place of those that are no cheaper.
-pub(super) fn keep<P: Price>(
-    entries: &mut [Entry<P>],
-    span: Span,
-    from: u32,
-    near: Entry<P>,
-) -> Span
-    requires { span.back < length entries.old }
-    ensures { (h : History P) → Spans P.pricing P.meaning entries.old span h → Accepts h from near → Spans P.pricing P.meaning entries.new result (put_in h from near) }
+// How many of the entries kept are cheaper from here than a new one: those up to the last that is.
+fn cheaper<P: Price>(kept: &[Entry<P>], from: u32, near: Entry<P>) -> usize
+    ensures high { result ≤ length kept.now }
+    ensures dropped { (a : ℕ) (d : Entry P) → result ≤ a → slice_get kept.now a ≡ Some d →
+        Judged P.pricing P.meaning from near d true }
+    ensures stopped { (d : Entry P) → 0 < result → slice_get kept.now (result - 1) ≡ Some d →
+        Judged P.pricing P.meaning from near d false }
 {
-    let place = place_of(entries, span, from, near);
-    entries[place] = near;
-    Span {
-        front: span.front,
-        back: place + 1,
-        position: from,
-        last: near.position,
-        limit: span.limit,
-    }
+    let last = kept.iter().rposition(|e| !near.no_dearer(*e, from));
+    last.map_or(0, |last| last + 1)
 }
 
 // Whether the entry behind the front costs no more than the front.
-fn tied<P: Price>(entries: &[Entry<P>], front: usize, back: usize, from: u32) -> bool
-    requires { (front < back) × (back ≤ length entries.now) }
-    ensures next { result ≡ true → front + 1 < back }
-    ensures judged { (e d : Entry P) → front + 1 < back → slice_get entries.now front ≡ Some e → slice_get entries.now (front + 1) ≡ Some d → Judged P.pricing P.meaning from d e result }
+fn tied<P: Price>(kept: &[Entry<P>], from: u32) -> bool
+    ensures next { IsTrue result → 1 < length kept.now }
+    ensures judged { (e d : Entry P) → slice_get kept.now 0 ≡ Some e →
+        slice_get kept.now 1 ≡ Some d → Judged P.pricing P.meaning from d e result }
 {
-    front + 1 < back && entries[front + 1].no_dearer(entries[front], from)
-}
-
-// The first kept entry that is within the limit and cheaper than the next.
-fn first_of<P: Price>(
-    entries: &[Entry<P>],
-    front: usize,
-    back: usize,
-    from: u32,
-    limit: u32,
-) -> usize
-    requires { back ≤ length entries.now }
-    ensures kept { (h : History P) → h.position ≡ from → h.limit ≡ limit → Kept P.pricing P.meaning entries.now front back h → Kept P.pricing P.meaning entries.now result back h }
-    ensures within { (e : Entry P) → result < back → slice_get entries.now result ≡ Some e → gap from e ≤ limit }
-    ensures dearer { (e d : Entry P) → result + 1 < back → slice_get entries.now result ≡ Some e → slice_get entries.now (result + 1) ≡ Some d → Judged P.pricing P.meaning from d e false }
-{
-    let mut first = front;
-    while first < back {
-        if entries[first].within(from, limit) && !tied(entries, first, back, from) {
-            return first;
-        }
-        first += 1;
+    match kept {
+        [front, next, ..] => next.no_dearer(*front, from),
+        _ => false,
     }
-    first
 }
 
-// The span from `from` on, and the entry at its front. A slice behind `self` can be lent on only
-// as it is held, so it comes as a `&mut`, and stays as it is.
-pub(super) fn lead<P: Price>(
-    entries: &mut [Entry<P>],
-    span: Span,
-    from: u32,
-) -> (Span, Option<Entry<P>>)
-    ensures same { entries.new ≡ entries.old }
-    ensures tells { (h : History P) → from ≤ h.position → Spans P.pricing P.meaning entries.old span h → Spans P.pricing P.meaning entries.old result.0 (moved h from) × Told P.pricing P.meaning (moved h from) result.1 }
+// How many stand before the first that is within the limit and cheaper than the next.
+fn passed_over<P: Price>(kept: &[Entry<P>], from: u32, limit: u32) -> usize
+    ensures high { result ≤ length kept.now }
+    ensures over { (a : ℕ) (e : Entry P) → a < result → slice_get kept.now a ≡ Some e →
+        (limit < gap from e) ⊎ ((d : Entry P) × (slice_get kept.now (a + 1) ≡ Some d)
+        × Judged P.pricing P.meaning from d e true) }
+    ensures within { (e : Entry P) → slice_get kept.now result ≡ Some e → gap from e ≤ limit }
+    ensures dearer { (e d : Entry P) → slice_get kept.now result ≡ Some e →
+        slice_get kept.now (result + 1) ≡ Some d → Judged P.pricing P.meaning from d e false }
 {
-    let back = span.back.min(entries.len());
-    let front = first_of(entries, span.front, back, from, span.limit);
-    let told = if front < back {
-        Some(entries[front])
-    } else {
-        None
-    };
-    let led = Span {
-        front,
-        back,
-        position: from,
-        last: span.last,
-        limit: span.limit,
-    };
-    (led, told)
+    for (i, e) in kept.iter().enumerate() {
+        if e.within(from, limit) && !tied(&kept[i..], from) {
+            return i;
+        }
+    }
+    kept.len()
 }

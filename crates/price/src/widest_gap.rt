@@ -3,7 +3,7 @@
 ghost use Rattle.price.specs.WidestGap.{NoPrice, Turns};
 
 /// Two prices by the widest gap, and a gap to charge each with.
-#[derive(Clone, Copy)]
+#[derive(Clone, Copy, Debug, PartialEq, Eq)]
 pub struct Turn {
     pub one: u32,
     pub one_gap: u32,

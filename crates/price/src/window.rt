@@ -1,14 +1,12 @@
 //! The sliding window.
 
-ghost use Rattle.std.specs.Prelude.{length, MatchResult};
-ghost use Rattle.price.specs.History.{fresh};
-ghost use Rattle.price.specs.Answers.{Holds, Taken, Returned, Answered, Left};
+ghost use Rattle.std.specs.Prelude.{length, MatchResult, ◌≤◌};
 
-use super::span::{Span, keep, lead};
+use super::span::Span;
 use super::{Entry, Price};
 
 /// The position lies after the one that the window stands at.
-#[derive(Clone, Copy)]
+#[derive(Clone, Copy, Debug, PartialEq, Eq)]
 pub struct Passed;
 
 /// The entries put in so far, as far as they may still be told, over memory that the caller
@@ -20,9 +18,13 @@ pub struct Passed;
 pub struct Window<'a, P> {
     entries: &'a mut [Entry<P>],
     span: Span,
+    ghost inside: { span.back ≤ length entries.now },
 }
 
 impl<'a, P: Price> Window<'a, P> {
+    ghost use Rattle.price.specs.History.{fresh};
+    ghost use Rattle.price.specs.Answers.{Holds, Taken, Returned, Answered, Left};
+
     /// A window that tells entries at a gap of at most `limit`. Memory for as many entries as
     /// will be put in always suffices.
     pub fn new(entries: &'a mut [Entry<P>], limit: u32) -> Window<'a, P>
@@ -38,13 +40,14 @@ impl<'a, P: Price> Window<'a, P> {
     /// put in before. The entry comes back, and nothing changes, where that is not so, where the
     /// move is to a later position, and where the memory is full.
     pub fn put(&mut self, from: u32, entry: Entry<P>) -> Result<(), Entry<P>>
-        ensures { MatchResult result (λ _. Taken P.pricing P.meaning self.old self.new from entry) (λ back. Returned P.pricing P.meaning self.old self.new from entry back) }
+        ensures { MatchResult result (λ _. Taken P.pricing P.meaning self.old self.new from entry)
+            (λ back. Returned P.pricing P.meaning self.old self.new from entry back) }
     {
         let span = self.span;
         if !span.takes(from, entry.position, self.entries.len()) {
             return Err(entry);
         }
-        self.span = keep(self.entries, span, from, entry);
+        self.span = span.keep(self.entries, from, entry);
         Ok(())
     }
 
@@ -52,13 +55,14 @@ impl<'a, P: Price> Window<'a, P> {
     /// gap of at most the limit; of equals the one put in last. A later position than the one
     /// reached is `Passed`, and nothing changes.
     pub fn least(&mut self, from: u32) -> Result<Option<Entry<P>>, Passed>
-        ensures { MatchResult result (λ told. Answered P.pricing P.meaning self.old self.new from told) (λ _. Left P.pricing P.meaning self.old self.new from) }
+        ensures { MatchResult result (λ told. Answered P.pricing P.meaning self.old self.new from told)
+            (λ _. Left P.pricing P.meaning self.old self.new from) }
     {
         let span = self.span;
         if span.has_passed(from) {
             return Err(Passed);
         }
-        let (led, told) = lead(self.entries, span, from);
+        let (led, told) = span.lead(self.entries, from);
         self.span = led;
         Ok(told)
     }

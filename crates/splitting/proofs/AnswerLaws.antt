@@ -5,7 +5,7 @@ use Rattle.price.specs.Pricing.{Pricing, Equal, Lawful as PriceLaws}
 use Rattle.splitting.specs.declared.Answer.{Answer}
 use Rattle.splitting.specs.declared.Answer.TheVariants.{None as none, Found as found}
 use Rattle.splitting.specs.declared.Found.{Found}
-use Rattle.notation.specs.declared.Mode.TheVariants.{AnyTransposition}
+use Rattle.notation.specs.declared.mode.Mode.TheVariants.{AnyTransposition}
 use Rattle.splitting.specs.declared.Piece.{Piece}
 use Rattle.splitting.specs.declared.Place.{Place}
 use Rattle.splitting.specs.Score.{Score, Question, Admits, Matches, Transposed}

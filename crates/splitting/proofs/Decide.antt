@@ -3,8 +3,8 @@ use Rattle.std.proofs.Common.{◌≡◌, ℕ, zero, suc, ◌+◌, ◌<◌, ◌�
 use Rattle.notation.specs.Kind.{Lawful as KindLaws}
 use Rattle.price.specs.Pricing.{Pricing}
 use Rattle.splitting.specs.declared.Found.{Found}
-use Rattle.notation.specs.declared.Mode.{Mode}
-use Rattle.notation.specs.declared.Mode.TheVariants.{Untransposed, AnyTransposition}
+use Rattle.notation.specs.declared.mode.Mode.{Mode}
+use Rattle.notation.specs.declared.mode.Mode.TheVariants.{Untransposed, AnyTransposition}
 use Rattle.splitting.specs.declared.Piece.{Piece}
 use Rattle.splitting.specs.declared.Place.{Place}
 use Rattle.splitting.specs.Score.{Score, Question, symbol, note, Admits, Matches}

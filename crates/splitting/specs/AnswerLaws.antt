@@ -4,7 +4,7 @@ use Rattle.notation.specs.Kind.{Kind, follow, Lawful as KindLaws}
 use Rattle.price.specs.Pricing.{Pricing, Equal, Lawful as PriceLaws}
 use Rattle.splitting.specs.declared.Answer.{Answer}
 use Rattle.splitting.specs.declared.Answer.TheVariants.{None as none, Found as found}
-use Rattle.notation.specs.declared.Mode.TheVariants.{AnyTransposition}
+use Rattle.notation.specs.declared.mode.Mode.TheVariants.{AnyTransposition}
 use Rattle.splitting.specs.declared.Piece.{Piece}
 use Rattle.splitting.specs.declared.Place.{Place}
 use Rattle.splitting.specs.Score.{Score, Question, Transposed}

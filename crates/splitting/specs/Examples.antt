@@ -6,8 +6,8 @@ use Rattle.price.specs.Pricing.{Pricing}
 use Rattle.price.specs.Prices.{by_changes, by_changes_then_silence}
 use Rattle.splitting.specs.declared.Answer.TheVariants.{None as none, Found as found}
 use Rattle.splitting.specs.declared.Found.{Found}
-use Rattle.notation.specs.declared.Mode.{Mode}
-use Rattle.notation.specs.declared.Mode.TheVariants.{Untransposed, AnyTransposition}
+use Rattle.notation.specs.declared.mode.Mode.{Mode}
+use Rattle.notation.specs.declared.mode.Mode.TheVariants.{Untransposed, AnyTransposition}
 use Rattle.splitting.specs.declared.Piece.{Piece}
 use Rattle.splitting.specs.Score.{Score, Question}
 use Rattle.splitting.specs.Splitting.{price_of}

@@ -1,8 +1,8 @@
 -- Scores, and what is asked of them, by the bytes of their symbols.
 use Rattle.std.specs.Prelude.{◌≡◌, ℕ, zero, suc, ◌<◌, ◌≤◌, List, [], length, ℤ, pos, Some, ◌≢◌, slice_index_or}
 use Rattle.notation.specs.Kind.{Kind, rest}
-use Rattle.notation.specs.declared.Mode.{Mode}
-use Rattle.notation.specs.declared.Mode.TheVariants.{Untransposed, AnyTransposition}
+use Rattle.notation.specs.declared.mode.Mode.{Mode}
+use Rattle.notation.specs.declared.mode.Mode.TheVariants.{Untransposed, AnyTransposition}
 
 -- a column has one byte a track, a score has its columns in order
 abbrev pub Column : Type 0

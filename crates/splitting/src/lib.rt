@@ -14,7 +14,7 @@ ghost use Rattle.splitting.specs.Minimum.{FewestPieces, ChangesCounted};
 use price::Price;
 
 /// Where a note lies: its column and its track, both counted from 1.
-#[derive(Clone, Copy)]
+#[derive(Clone, Copy, Debug, PartialEq, Eq)]
 pub struct Place {
     pub column: usize,
     pub track: usize,
@@ -22,7 +22,7 @@ pub struct Place {
 
 /// A part of a query that lies unbroken on one track: the first of its notes, how many they are,
 /// the track, and the column of the first. Notes, tracks and columns count from 1.
-#[derive(Clone, Copy)]
+#[derive(Clone, Copy, Debug, PartialEq, Eq)]
 pub struct Piece {
     pub first: usize,
     pub len: usize,
@@ -32,7 +32,7 @@ pub struct Piece {
 
 /// What is told of a way that was found: its price, the number of its pieces, its transposition and
 /// where it begins.
-#[derive(Clone, Copy)]
+#[derive(Clone, Copy, Debug, PartialEq, Eq)]
 pub struct Found<P> {
     pub price: P,
     pub count: usize,
@@ -40,8 +40,9 @@ pub struct Found<P> {
     pub place: Place,
 }
 
+// Stays: the rules of the project name an answer with none and found as its cases.
 /// What a question answers.
-#[derive(Clone, Copy)]
+#[derive(Clone, Copy, Debug, PartialEq, Eq)]
 pub enum Answer<P> {
     None,
     Found(Found<P>),
