@@ -1,7 +1,6 @@
 -- Writing column blocks, one block more.
-use Rattle.std.proofs.Common.{◌≡◌, ℕ, zero, suc, ◌+◌, ◌-◌, ◌*◌, ◌≤◌, min, List, [], ◌∷◌, ◌++◌, length, take, drop, sym, ap, ◌∙◌, inl, inr, suc-mul, arith}
-use Rattle.std.proofs.lemmas.Bool.{cases_lt}
-use Rattle.std.proofs.lemmas.List.{append-nil, append_assoc, length-take-le, take_at, drop_at, drop-drop, length-append, length-drop, length-take, take-append-drop, take_all, drop_all}
+use Rattle.std.proofs.Common.{◌≡◌, ℕ, zero, suc, ◌+◌, ◌*◌, ◌≤◌, List, ◌∷◌, ◌++◌, length, take, drop, sym, ap, ◌∙◌, suc-mul, arith}
+use Rattle.std.proofs.lemmas.List.{append-nil, append_assoc, length-take-le, take_at, drop_at, drop-drop, length-append, length-drop, length-take, take-append-drop, take_all}
 use Rattle.notation.specs.Kind.{Kind}
 use Rattle.book.specs.Blocks.{block_bytes, two, title_letter, columns_letter}
 use borrow.Rule.Slice.PartMut.{put_mid}
@@ -10,12 +9,9 @@ use Rattle.book.specs.Grids.{Grid, columns_a_block, blocks_for, column_blocks, b
 use Rattle.book.proofs.Fields.{length_block}
 use Rattle.book.proofs.Complete.{length_columns}
 
--- a payload that was written into its place
-pub in_place : (d o s : List ℕ) (n : ℕ) → 6 ≤ length d → length s ≡ n → o ≡ take 6 d ++ (s ++ drop (6 + n) d) → take n (drop 6 o) ≡ s
-in_place d o s n l e w =
-    ap (λ x. take n (drop 6 x)) w
-    ∙ ap (take n) (drop_at (take 6 d) (s ++ drop (6 + n) d) 6 (length-take-le 6 d l))
-    ∙ take_at s (drop (6 + n) d) n e
+-- a payload that a block holds whole
+pub fits_block : (s : List ℕ) → length s ≤ 502 → take 502 s ≡ s
+fits_block s l = take_all 502 s l
 
 pub columns_more : (kind w n m : ℕ) (cells : List ℕ) → column_blocks kind w n (suc m) cells ≡ column_blocks kind w n m cells ++ block_bytes columns_letter kind (n + m) (take w (drop (m * w) cells))
 columns_more kind w n zero cells =
@@ -29,25 +25,6 @@ columns_more kind w n (suc m) cells =
     ∙ sym (append_assoc (block_bytes columns_letter kind n (take w cells)) (column_blocks kind w (suc n) m (drop w cells)) (block_bytes columns_letter kind (suc n + m) (take w (drop (m * w) (drop w cells)))))
     ∙ (λ i. block_bytes columns_letter kind n (take w cells) ++ column_blocks kind w (suc n) m (drop w cells) ++ block_bytes columns_letter kind (e i) (take w (drop-drop (m * w) w cells i)))
     ∙ ap (λ j. block_bytes columns_letter kind n (take w cells) ++ column_blocks kind w (suc n) m (drop w cells) ++ block_bytes columns_letter kind (n + suc m) (take w (drop j cells))) f
-
--- a part of a list between bounds that are cut to its length
-pub cut_part : {X : Type 0} (xs : List X) (at w from to : ℕ) → from ≡ min at (length xs) → to ≡ min (from + w) (length xs) → take (to - from) (drop from xs) ≡ take w (drop at xs)
-cut_part xs at w from to e f =
-    elim (cases_lt at (length xs)) [
-      | inl l ↦
-          let a : from ≡ at = omega arith in
-          ap (λ n. take (to - n) (drop n xs)) a
-          ∙ elim (cases_lt (at + w) (length xs)) [
-            | inl m ↦ let b : to - at ≡ w = omega arith in ap (λ n. take n (drop at xs)) b
-            | inr m ↦ let ld = length-drop at xs in take_all (to - at) (drop at xs) (omega arith) ∙ sym (take_all w (drop at xs) (omega arith))
-          ]
-      | inr l ↦
-          let a : from ≡ length xs = omega arith in
-          ap (λ n. take (to - n) (drop n xs)) a
-          ∙ ap (take (to - length xs)) (drop_all (length xs) xs (omega arith))
-          ∙ take_all (to - length xs) [] (omega arith)
-          ∙ sym (ap (take w) (drop_all at xs l) ∙ take_all w [] (omega arith))
-    ]
 
 -- one block more after the title and some column blocks
 pub block_more : (kind w m k : ℕ) (cells d o blk : List ℕ) → 512 * (1 + (m + 1)) ≤ length d → w ≤ 502 → k ≡ 512 → o ≡ take 512 d ++ column_blocks kind w 1 m cells ++ drop (512 * (1 + m)) d → blk ≡ block_bytes columns_letter kind (m + 1) (take w (drop (m * w) cells)) → put_mid (512 * (m + 1)) k o blk ≡ take 512 d ++ column_blocks kind w 1 (m + 1) cells ++ drop (512 * (1 + (m + 1))) d
@@ -79,13 +56,12 @@ block_more kind w m k cells d o blk room fits ek eo eb =
     ∙ ap (λ y. y ++ drop n d) (append_assoc (take 512 d) cb blk ∙ ap (λ y. take 512 d ++ y) block)
 
 -- a title and column blocks in front of an output are the bytes of the score
-pub book_done : (k : Kind) (g : Grid) (number blocks : ℕ) (d titled done : List ℕ) → number ≡ k.number → blocks ≡ blocks_for g.tracks g.columns → titled ≡ block_bytes title_letter number 0 (g.tracks ∷ two g.columns) → done ≡ take 512 (titled ++ drop 512 d) ++ column_blocks k.number (columns_a_block g.tracks * g.tracks) 1 blocks g.cells ++ drop (512 * (1 + blocks)) (titled ++ drop 512 d) → done ≡ bytes_of k g ++ drop (512 * (1 + blocks)) d
+pub book_done : (k : Kind) (g : Grid) (blocks : ℕ) (d titled done : List ℕ) → blocks ≡ blocks_for g.tracks g.columns → titled ≡ block_bytes title_letter k.number 0 (g.tracks ∷ two g.columns) → done ≡ take 512 (titled ++ drop 512 d) ++ column_blocks k.number (columns_a_block g.tracks * g.tracks) 1 blocks g.cells ++ drop (512 * (1 + blocks)) (titled ++ drop 512 d) → done ≡ bytes_of k g ++ drop (512 * (1 + blocks)) d
 unfolding bytes_of
-book_done k g number blocks d titled done en eb et ed =
+book_done k g blocks d titled done eb is ed =
     let n = 512 * (1 + blocks) in
     let w = columns_a_block g.tracks * g.tracks in
     let title = block_bytes title_letter k.number 0 (g.tracks ∷ two g.columns) in
-    let is : titled ≡ title = et ∙ ap (λ m. block_bytes title_letter m 0 (g.tracks ∷ two g.columns)) en in
     let lt : length title ≡ 512 = length_block title_letter k.number 0 (g.tracks ∷ two g.columns) (omega arith) in
     let lt' : length titled ≡ 512 = ap length is ∙ lt in
     ed ∙ (λ i. (take_at titled (drop 512 d) 512 lt' ∙ is) i ++ column_blocks k.number w 1 (eb i) g.cells ++ drop-append-drop 512 d titled n (omega arith) lt' i)

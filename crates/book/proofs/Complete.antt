@@ -10,9 +10,9 @@ use Rattle.notation.specs.Known.{known}
 use Rattle.book.specs.Refusals.{then}
 use Rattle.book.specs.Blocks.{block_bytes, two, number, payload_length, payload, title_letter, columns_letter, known_letter, padded, sound, block_refusal}
 use Rattle.book.specs.Grids.{Grid, ScoreOf, columns_a_block, blocks_for, column_blocks, bytes_of}
-use Rattle.book.specs.Books.{expected, title_shape, in_shape, title_refusal, due, columns_refusal, turn_refusal, opened, after, is_full, blocks_refusal, whole_blocks, book_refusal, payloads, held}
+use Rattle.book.specs.Books.{progress, expected, title_shape, in_shape, title_refusal, due, columns_refusal, turn_refusal, opened, after, is_full, blocks_refusal, whole_blocks, book_refusal, payloads, held}
 use Rattle.book.specs.declared.refusal.Layer.TheVariants.{Book}
-use Rattle.book.specs.declared.stage.Shape.{Shape}
+use Rattle.book.specs.Shapes.{Shape}
 use Rattle.book.specs.declared.stage.Stage.TheVariants.{Title, Columns, Full}
 use Rattle.book.proofs.Rules.{unless_kept, then_both, symbols_none, times_more, times_none}
 use Rattle.book.proofs.Fields.{length_block, number_is, payload_length_is, payload_is, padded_is, sound_is}
@@ -100,7 +100,7 @@ module _ (k : Kind) (s : Shape) (some : 1 ≤ s.tracks) (few : s.tracks ≤ 16) 
       let l = at_end read e in
       let z : s.columns - read ≡ 0 = omega arith in
       record {
-        none = unless_kept (is_full (opened s read)) _ _ (ap is_full (cond-false (ltb read s.columns) (Columns s read) (Full s) (le-ltb read s.columns l))) refl;
+        none = unless_kept (is_full (opened s read)) _ _ (ap is_full (cond-false (ltb read s.columns) (Columns (progress s read)) (Full s) (le-ltb read s.columns l))) refl;
         again = sym (nil_from_length cells (omega (arith, long, ap (λ n. n * s.tracks) z)));
       }
   columns_read (suc more) n read cells e long all =
@@ -118,7 +118,7 @@ module _ (k : Kind) (s : Shape) (some : 1 ≤ s.tracks) (few : s.tracks ≤ 16) 
       let ih = columns_read more (suc n) (read + due s read) (drop w cells) count tk.1 (All-drop (λ x. T (readable k x)) w cells all) in
       let first : take 512 (blk ++ rest) ≡ blk = take_at blk rest 512 (length_block columns_letter k.number n p fits) in
       let others : drop 512 (blk ++ rest) ≡ rest = drop_at blk rest 512 (length_block columns_letter k.number n p fits) in
-      let stage : opened s read ≡ Columns s read = cond-true (ltb read s.columns) (Columns s read) (Full s) (lt-ltb read s.columns l) in
+      let stage : opened s read ≡ Columns (progress s read) = cond-true (ltb read s.columns) (Columns (progress s read)) (Full s) (lt-ltb read s.columns l) in
       let turn : columns_refusal k s read n blk ≡ None =
       unless_kept (expected k n blk) _ _ (expected_is k columns_letter n p fits)
       (unless_kept (eqb (payload_length blk) (due s read * t)) _ _ (eq-eqb (payload_length blk) (due s read * t) (payload_length_is columns_letter k.number n p fits ∙ tk.0))

@@ -9,9 +9,9 @@ use Rattle.notation.specs.Kind.{Kind, readable}
 use Rattle.notation.specs.Known.{known}
 use Rattle.book.specs.Blocks.{block_bytes, two, letter, kind_number, number, payload_length, payload, title_letter, columns_letter, known_letter, padded, sound, block_refusal}
 use Rattle.book.specs.Grids.{ScoreOf, columns_a_block, blocks_for, column_blocks, bytes_of}
-use Rattle.book.specs.Books.{expected, title_shape, in_shape, title_refusal, due, columns_refusal, turn_refusal, opened, after, is_full, blocks_refusal, whole_blocks, book_refusal, payloads, held}
+use Rattle.book.specs.Books.{progress, expected, title_shape, in_shape, title_refusal, due, columns_refusal, turn_refusal, opened, after, is_full, blocks_refusal, whole_blocks, book_refusal, payloads, held}
 use Rattle.book.specs.declared.refusal.Layer.TheVariants.{Book}
-use Rattle.book.specs.declared.stage.Shape.{Shape}
+use Rattle.book.specs.Shapes.{Shape}
 use Rattle.book.specs.declared.stage.Stage.TheVariants.{Title, Columns, Full}
 use Rattle.book.proofs.Rules.{unless_none, then_parts, symbols_read, times_more, times_none}
 use Rattle.book.proofs.Fields.{Bytes, bytes_of_fields, length_payload, two_of}
@@ -53,15 +53,15 @@ pub record Written (k : Kind) (s : Shape) (read n more : ℕ) (rest : List ℕ) 
   pub symbols : AllByRecursion (λ b. T (readable k b)) (payloads more rest)
 
 -- which stage is open
-open_full : (s : Shape) (read : ℕ) (b : Bool) → ltb read s.columns ≡ b → is_full (cond b (Columns s read) (Full s)) ≡ true → s.columns ≤ read
+open_full : (s : Shape) (read : ℕ) (b : Bool) → ltb read s.columns ≡ b → is_full (cond b (Columns (progress s read)) (Full s)) ≡ true → s.columns ≤ read
 open_full s read true e h = let z : ◌≡◌ {A = ℕ} 0 1 = cc in absurd (omega arith)
 open_full s read false e h = ltb-false read s.columns e
 
-open_turn : (k : Kind) (s : Shape) (read n : ℕ) (b : List ℕ) (t : Bool) → ltb read s.columns ≡ t → turn_refusal k (cond t (Columns s read) (Full s)) n b ≡ None → (read < s.columns) × (columns_refusal k s read n b ≡ None)
+open_turn : (k : Kind) (s : Shape) (read n : ℕ) (b : List ℕ) (t : Bool) → ltb read s.columns ≡ t → turn_refusal k (cond t (Columns (progress s read)) (Full s)) n b ≡ None → (read < s.columns) × (columns_refusal k s read n b ≡ None)
 open_turn k s read n b true e h = (ltb-true read s.columns e, h)
 open_turn k s read n b false e h = let z : ◌≡◌ {A = ℕ} 0 1 = cc in absurd (omega arith)
 
-open_after : (s : Shape) (read : ℕ) (b : List ℕ) (t : Bool) → ltb read s.columns ≡ t → read < s.columns → after (cond t (Columns s read) (Full s)) b ≡ opened s (read + due s read)
+open_after : (s : Shape) (read : ℕ) (b : List ℕ) (t : Bool) → ltb read s.columns ≡ t → read < s.columns → after (cond t (Columns (progress s read)) (Full s)) b ≡ opened s (read + due s read)
 open_after s read b true e l = refl
 open_after s read b false e l = absurd (omega (arith, ltb-false read s.columns e))
 

@@ -1,3 +1,4 @@
+pub mod Chunking
 pub mod Sums
 pub mod Walking
 pub mod Fields

@@ -30,14 +30,14 @@ held_again k input g known-kind score e =
     (ap (book_refusal k) e ∙ r.0, ap held e ∙ r.1)
 
 module _ {S : Type 0} (k : Kind) (input : List ℕ) where
-  pub reading_ok : Bytes input → book_refusal k input ≡ None → (b : Book S) → b.input.now ≡ input → b.shape ≡ title_shape input → Reading k input (Ok b)
-  reading_ok bytes none b view shape =
+  pub reading_ok : Bytes input → book_refusal k input ≡ None → (b : Book S) → b.input.now ≡ input → b.tracks ≡ (title_shape input).tracks → b.columns ≡ (title_shape input).columns → Reading k input (Ok b)
+  reading_ok bytes none b view tracks columns =
       let w = book_written k input bytes none in
       record {
         by_rules = none;
         granted = (
           is_T (known k.number) w.0,
-          record { score = w.1; bytes = view ∙ w.2; tracks = ap (λ s. s.tracks) shape; columns = ap (λ s. s.columns) shape },
+          record { score = w.1; bytes = view ∙ w.2; tracks = tracks; columns = columns },
           view,
         );
         every = λ g known-kind score e. (refl, (held_again k input g known-kind score e).1);
@@ -60,7 +60,7 @@ place_bounds tracks columns column track e =
     (leb-true 1 column r.0, leb-true column columns r.1, leb-true 1 track q.1, leb-true track tracks p.1)
 
 -- a place of a book that was read
-pub place_told : {S : Type 0} (k : Kind) (b : Book S) (g : Grid) → Holds k b g → (column track at : ℕ) → has_place b.shape.tracks b.shape.columns column track ≡ true → at ≡ byte_place b.shape.tracks column track → (has_place g.tracks g.columns column track ≡ true) × (at < length b.input.now) × (get_or b.input.now at 0 ≡ get_or g.cells (cell_number g.tracks column track) 0) × T (readable k (get_or g.cells (cell_number g.tracks column track) 0))
+pub place_told : {S : Type 0} (k : Kind) (b : Book S) (g : Grid) → Holds k b g → (column track at : ℕ) → has_place b.tracks b.columns column track ≡ true → at ≡ byte_place b.tracks column track → (has_place g.tracks g.columns column track ≡ true) × (at < length b.input.now) × (get_or b.input.now at 0 ≡ get_or g.cells (cell_number g.tracks column track) 0) × T (readable k (get_or g.cells (cell_number g.tracks column track) 0))
 place_told k b g holds column track at there e =
     let there' : has_place g.tracks g.columns column track ≡ true = (λ i. has_place (sym holds.tracks i) (sym holds.columns i) column track) ∙ there in
     let p = place_bounds g.tracks g.columns column track there' in
@@ -74,10 +74,10 @@ place_told k b g holds column track at there e =
     )
 
 -- where no byte of a place is told there is no such place
-pub nowhere : {S : Type 0} (k : Kind) (b : Book S) (g : Grid) → Holds k b g → (column track : ℕ) → (has_place b.shape.tracks b.shape.columns column track ≡ true → length b.input.now ≤ byte_place b.shape.tracks column track) → has_place g.tracks g.columns column track ≡ false
+pub nowhere : {S : Type 0} (k : Kind) (b : Book S) (g : Grid) → Holds k b g → (column track : ℕ) → (has_place b.tracks b.columns column track ≡ true → length b.input.now ≤ byte_place b.tracks column track) → has_place g.tracks g.columns column track ≡ false
 nowhere k b g holds column track past =
     (λ i. has_place (sym holds.tracks i) (sym holds.columns i) column track)
-    ∙ ⊎_elim (λ there. absurd (omega (arith, past there, (place_told k b g holds column track (byte_place b.shape.tracks column track) there refl).1))) (λ e. e) (cases_Bool (has_place b.shape.tracks b.shape.columns column track))
+    ∙ ⊎_elim (λ there. absurd (omega (arith, past there, (place_told k b g holds column track (byte_place b.tracks column track) there refl).1))) (λ e. e) (cases_Bool (has_place b.tracks b.columns column track))
 
 -- a symbol read from a byte that can be read
 pub told_there : {S : Type 0} (byte : S → ℕ) (o : Option S) (R : Type 0) (x y : ℕ) (there : Bool) → MatchOption o (R → ⊥) (λ s. byte s ≡ x) → R → there ≡ true → x ≡ y → MatchOption o (there ≡ false) (λ s. (there ≡ true) × (byte s ≡ y))

@@ -1,5 +1,6 @@
 -- Blocks of 512 bytes: their layout, their check, and when one is refused.
-use Rattle.std.specs.Prelude.{ℕ, suc, ◌+◌, ◌-◌, ◌*◌, ◌/◌, ◌%◌, Bool, true, ◌&&◌, ◌||◌, List, [], ◌∷◌, ◌++◌, length, take, drop, replicate, None, Option, ◌==◌, nat_le, slice_index}
+use Rattle.std.specs.Prelude.{ℕ, suc, ◌+◌, ◌-◌, ◌*◌, ◌/◌, ◌%◌, Bool, ◌&&◌, ◌||◌, List, [], ◌∷◌, ◌++◌, length, take, drop, replicate, None, Option, ◌==◌, nat_le, slice_index}
+use Rattle.std.specs.List.{list_all}
 use Rattle.notation.specs.Known.{known}
 use Rattle.book.specs.Refusals.{refusal, unless}
 use Rattle.book.specs.declared.refusal.Layer.TheVariants.{Block}
@@ -59,8 +60,7 @@ abbrev pub stored_check : List ℕ → ℕ
 stored_check b = ((slice_index b 508 * 256 + slice_index b 509) * 256 + slice_index b 510) * 256 + slice_index b 511
 
 abbrev pub blank : List ℕ → Bool
-blank [] = true
-blank (b ∷ bs) = b == 0 && blank bs
+blank bs = list_all (λ b. b == 0) bs
 
 -- the payload fits, and zeros follow it up to the check
 abbrev pub padded : List ℕ → Bool

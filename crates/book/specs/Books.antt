@@ -1,11 +1,12 @@
 -- Reading a book: which bytes are refused, and what score a book holds.
-use Rattle.std.specs.Prelude.{ℕ, zero, suc, ◌+◌, ◌-◌, ◌*◌, ◌/◌, ◌%◌, ◌<◌, ◌≤◌, min, Bool, true, false, cond, ◌&&◌, List, [], ◌++◌, length, take, drop, Some, None, Option, ◌==◌, nat_le, nat_lt, slice_index}
+use Rattle.std.specs.Prelude.{ℕ, zero, suc, ◌+◌, ◌-◌, ◌*◌, ◌/◌, ◌%◌, min, Bool, true, false, cond, ◌&&◌, List, [], ◌++◌, length, take, drop, Some, None, Option, ◌==◌, nat_le, nat_lt, slice_index}
 use Rattle.std.specs.List.{prefix_len}
 use Rattle.notation.specs.Kind.{Kind, readable}
 use Rattle.book.specs.Refusals.{refusal, unless, then}
 use Rattle.book.specs.Blocks.{letter, kind_number, number, payload_length, payload, title_letter, columns_letter, block_refusal}
 use Rattle.book.specs.Grids.{Grid, columns_a_block}
-use Rattle.book.specs.declared.stage.Shape.{Shape}
+use Rattle.book.specs.Shapes.{Progress}
+use Rattle.book.specs.Shapes.{Shape}
 use Rattle.book.specs.declared.stage.Stage.{Stage}
 use Rattle.book.specs.declared.stage.Stage.TheVariants.{Title, Columns, Full}
 use Rattle.book.specs.declared.refusal.Layer.{Layer}
@@ -20,9 +21,12 @@ expected k n b = number b == n && kind_number b == k.number
 abbrev pub symbols_refusal : Kind → Layer → ℕ → List ℕ → Option Refusal
 symbols_refusal k layer from bytes = unless (nat_le (length bytes) (prefix_len (readable k) bytes)) (refusal 9 (from + prefix_len (readable k) bytes) layer) None
 
+abbrev pub shape : ℕ → ℕ → Shape
+shape t c = record { tracks = t; columns = c }
+
 -- the tracks and columns that a title block tells
 abbrev pub title_shape : List ℕ → Shape
-title_shape b = record { tracks = slice_index b 6; columns = slice_index b 7 * 256 + slice_index b 8 }
+title_shape b = shape (slice_index b 6) (slice_index b 7 * 256 + slice_index b 8)
 
 abbrev pub in_shape : Shape → Bool
 in_shape s = nat_le 1 s.tracks && nat_le s.tracks 16 && nat_le s.columns 4096
@@ -49,28 +53,26 @@ columns_refusal k s read n b =
 -- the refusal of block n at a stage of the reading: past the last column any block is out of turn
 abbrev pub turn_refusal : Kind → Stage → ℕ → List ℕ → Option Refusal
 turn_refusal k Title n b = title_refusal k n b
-turn_refusal k (Columns s read) n b = columns_refusal k s read n b
+turn_refusal k (Columns p) n b = columns_refusal k p.shape p.read n b
 turn_refusal k (Full s) n b = Some (refusal 5 n Book)
+
+-- a score of which so many columns are read
+abbrev pub progress : Shape → ℕ → Progress
+progress s read = record { shape = s; read = read }
 
 -- the stage where so many columns are read
 abbrev pub opened : Shape → ℕ → Stage
-opened s read = cond (nat_lt read s.columns) (Columns s read) (Full s)
+opened s read = cond (nat_lt read s.columns) (Columns (progress s read)) (Full s)
 
 -- the stage after a block
 abbrev pub after : Stage → List ℕ → Stage
 after Title b = opened (title_shape b) 0
-after (Columns s read) b = opened s (read + due s read)
+after (Columns p) b = opened p.shape (p.read + due p.shape p.read)
 after (Full s) b = Full s
-
--- a stage that the reading comes to: of a lawful shape, with columns to come where it waits for them
-abbrev pub Open : Stage → Type 0
-Open Title = Unit {0}
-Open (Columns s read) = (1 ≤ s.tracks) × (s.tracks ≤ 16) × (s.columns ≤ 4096) × (read < s.columns)
-Open (Full s) = (1 ≤ s.tracks) × (s.tracks ≤ 16) × (s.columns ≤ 4096)
 
 abbrev pub is_full : Stage → Bool
 is_full Title = false
-is_full (Columns s read) = false
+is_full (Columns p) = false
 is_full (Full s) = true
 
 -- the refusal of what is left of a book, `more` blocks from number n on, at a stage of the reading

@@ -7,11 +7,14 @@ use Rattle.book.specs.Writing.{Written}
 use Rattle.book.specs.declared.fault.DescribeFault.{DescribeFault}
 use Rattle.book.specs.declared.fault.DescribeFault.TheVariants.{Memory, OfOutput}
 use Rattle.book.specs.declared.refusal.Refusal.{Refusal}
-use Rattle.book.specs.declared.stage.Shape.{Shape}
+use Rattle.book.specs.Shapes.{Shape}
 
 -- refused, number, at, place
+abbrev pub refused : Refusal → List ℕ
+refused r = codes "refused " ++ (decimal r.number ++ (codes " at " ++ decimal r.place))
+
 abbrev pub refused_line : Refusal → List ℕ
-refused_line r = codes "refused " ++ (decimal r.number ++ (codes " at " ++ (decimal r.place ++ codes "\n")))
+refused_line r = refused r ++ codes "\n"
 
 abbrev pub shape_line : ℕ → Shape → List ℕ
 shape_line kind s = codes "kind " ++ (decimal kind ++ (codes " tracks " ++ (decimal s.tracks ++ (codes " columns " ++ (decimal s.columns ++ codes "\n")))))

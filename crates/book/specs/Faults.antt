@@ -1,7 +1,4 @@
 -- What each fault tells: its number, its place and its layer.
-use Rattle.std.specs.Prelude.{ℕ}
-use Rattle.book.specs.declared.block.Letter.{Letter}
-use Rattle.book.specs.declared.block.Letter.TheVariants as letters
 use Rattle.book.specs.declared.fault.BlockFault.{BlockFault}
 use Rattle.book.specs.declared.fault.BlockFault.TheVariants.{Check, Unknown, Padding}
 use Rattle.book.specs.declared.fault.BookFault.{BookFault}
@@ -10,12 +7,6 @@ use Rattle.book.specs.declared.fault.TooShort.{TooShort}
 use Rattle.book.specs.declared.refusal.Layer.TheVariants.{File, Block, Book, Writing}
 use Rattle.book.specs.declared.refusal.Refusal.{Refusal}
 use Rattle.book.specs.Refusals.{refusal}
-use Rattle.book.specs.Blocks.{title_letter, columns_letter, slip_letter}
-
-abbrev pub letter_byte : Letter → ℕ
-letter_byte letters.Title = title_letter
-letter_byte letters.Columns = columns_letter
-letter_byte letters.Slip = slip_letter
 
 abbrev pub block_told : BlockFault → Refusal
 block_told (Check n) = refusal 2 n Block

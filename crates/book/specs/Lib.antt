@@ -1,5 +1,7 @@
 pub mod Refusals
 pub mod Blocks
+pub mod Letters
+pub mod Shapes
 pub mod Grids
 pub mod Books
 pub mod Faults

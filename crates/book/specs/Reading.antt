@@ -12,8 +12,8 @@ use Rattle.book.specs.declared.view.Book.{Book}
 pub record Holds {S : Type 0} (k : Kind) (b : Book S) (g : Grid) : Type 0 where
   pub score : ScoreOf k g
   pub bytes : b.input.now ≡ bytes_of k g
-  pub tracks : b.shape.tracks ≡ g.tracks
-  pub columns : b.shape.columns ≡ g.columns
+  pub tracks : b.tracks ≡ g.tracks
+  pub columns : b.columns ≡ g.columns
 
 -- reading some bytes as a book of the kind
 pub record Reading {S : Type 0} (k : Kind) (input : List ℕ) (r : Result (Book S) BookFault) : Type 0 where

@@ -7,9 +7,11 @@ ghost use Rattle.book.specs.declared.fault.DescribeFault.TheVariants.{Memory, Of
 
 use super::refusal::{Layer, Refusal};
 use std::alloc::AllocError;
+use std::error::Error;
+use std::fmt;
 
 /// Why a block is refused, whatever it is for.
-#[derive(Clone, Copy)]
+#[derive(Clone, Copy, Debug, PartialEq, Eq)]
 pub enum BlockFault {
     /// The check that it stores differs from the one worked out.
     Check { block: usize },
@@ -37,7 +39,7 @@ impl BlockFault {
 }
 
 /// Why some bytes are no book.
-#[derive(Clone, Copy)]
+#[derive(Clone, Copy, Debug, PartialEq, Eq)]
 pub enum BookFault {
     /// The input is empty, or no whole number of blocks.
     Length { bytes: usize },
@@ -90,7 +92,7 @@ impl BookFault {
 }
 
 /// An output is too short for what is to be written.
-#[derive(Clone, Copy)]
+#[derive(Clone, Copy, Debug, PartialEq, Eq)]
 pub struct TooShort {
     pub needed: usize,
 }
@@ -108,13 +110,24 @@ impl TooShort {
 }
 
 /// Why a book is not described.
-#[derive(Clone, Copy)]
+#[derive(Clone, Copy, Debug, PartialEq, Eq)]
 pub enum DescribeFault {
     /// There is no memory for the text.
     Memory,
     /// The output is too short.
     OfOutput(TooShort),
 }
+
+impl fmt::Display for DescribeFault {
+    fn fmt<W: fmt::Write>(&self, f: &mut fmt::Formatter<W>) -> fmt::Result {
+        f.write_str(match self {
+            DescribeFault::Memory => "no memory",
+            DescribeFault::OfOutput(_) => "the line is too long",
+        })
+    }
+}
+
+impl Error for DescribeFault {}
 
 impl From<AllocError> for DescribeFault {
     ghost from_gives = { λ _ r. r ≡ Memory };

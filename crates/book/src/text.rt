@@ -1,14 +1,15 @@
 //! Telling what a book is, as text.
 
 ghost use Rattle.std.specs.Prelude.{◌≡◌, IfOk, string_bytes};
-ghost use Rattle.book.specs.Describing.{description, description_as, refused_line, Described};
+ghost use Rattle.notation.specs.Kinds.{kind_of};
+ghost use Rattle.book.specs.Describing.{description, description_as, named_kind, refused_line, Described};
 ghost use Rattle.book.specs.Writing.{Written};
 
 use super::fault::{DescribeFault, TooShort};
 use super::refusal::Refusal;
 use super::sealing::has_room;
 use super::view::Book;
-use notation::{Pitch, PitchClass, Stroke, Symbol};
+use notation::{Pitch, PitchClass, Stroke, Symbol, SymbolKind};
 use std::alloc::{AllocError, Global};
 
 /// Writes a line on some bytes to the front of an output: kind, tracks and columns of the book that
@@ -24,13 +25,20 @@ pub fn describe(heap: Global, input: &[u8], out: &mut [u8]) -> Result<usize, Des
 fn text_of(heap: Global, input: &[u8]) -> Result<String, AllocError>
     ensures { IfOk result (λ t. string_bytes t ≡ description input.now) }
 {
-    if input.len() < 2 {
-        return text_as::<Pitch>(heap, input);
+    match named_kind(input) {
+        SymbolKind::Pitch => text_as::<Pitch>(heap, input),
+        SymbolKind::PitchClass => text_as::<PitchClass>(heap, input),
+        SymbolKind::Stroke => text_as::<Stroke>(heap, input),
     }
-    match input[1] {
-        2 => text_as::<PitchClass>(heap, input),
-        3 => text_as::<Stroke>(heap, input),
-        _ => text_as::<Pitch>(heap, input),
+}
+
+/// The kind that some bytes name as a book, and pitches where they name none.
+pub fn named_kind(input: &[u8]) -> SymbolKind
+    ensures { kind_of result ≡ named_kind input.now }
+{
+    match input.get(1) {
+        Some(byte) => SymbolKind::try_from(*byte).unwrap_or(SymbolKind::Pitch),
+        None => SymbolKind::Pitch,
     }
 }
 
@@ -52,9 +60,7 @@ fn text_as<S: Symbol>(heap: Global, input: &[u8]) -> Result<String, AllocError>
 pub fn refused_line(heap: Global, refusal: Refusal) -> Result<String, AllocError>
     ensures { IfOk result (λ t. string_bytes t ≡ refused_line refusal) }
 {
-    let number = refusal.number;
-    let place = refusal.place;
-    format!(in heap; "refused {number} at {place}\n")
+    format!(in heap; "{refusal}\n")
 }
 
 /// Copies a text to the front of an output.

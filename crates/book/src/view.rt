@@ -6,7 +6,6 @@ ghost use Rattle.book.specs.Reading.{Reading, Holds, Told, has_place, byte_place
 
 use super::fault::BookFault;
 use super::reader::read_shape;
-use super::stage::Shape;
 use notation::Symbol;
 use std::marker::PhantomData;
 
@@ -14,7 +13,8 @@ use std::marker::PhantomData;
 #[derive(Drop)]
 pub struct Book<'a, S> {
     input: &'a [u8],
-    shape: Shape,
+    tracks: u8,
+    columns: u16,
     kind: PhantomData<S>,
 }
 
@@ -23,57 +23,47 @@ impl<'a, S: Symbol> Book<'a, S> {
     pub fn read(input: &'a [u8]) -> Result<Book<'a, S>, BookFault>
         ensures { Reading S.kind input.now result }
     {
-        match read_shape::<S>(input) {
-            Ok(shape) => Ok(Book {
-                input,
-                shape,
-                kind: PhantomData,
-            }),
-            Err(fault) => Err(fault),
-        }
+        let shape = read_shape::<S>(input)?;
+        Ok(Book {
+            input,
+            tracks: shape.tracks,
+            columns: shape.columns,
+            kind: PhantomData,
+        })
     }
 
     pub fn tracks(&self) -> usize
         ensures { (g : Grid) → Holds S.kind self.now g → result ≡ g.tracks }
     {
-        self.shape.tracks as usize
+        usize::from(self.tracks)
     }
 
     pub fn columns(&self) -> usize
         ensures { (g : Grid) → Holds S.kind self.now g → result ≡ g.columns }
     {
-        self.shape.columns as usize
+        usize::from(self.columns)
     }
 
     /// The symbol in a column on a track, both counted from 1; absent where there is no such place.
     pub fn symbol(&self, column: usize, track: usize) -> Option<S>
         ensures { (g : Grid) → Holds S.kind self.now g → Told S.byte g column track result }
     {
-        match self.cell(column, track) {
-            Some(b) => S::read(b),
-            None => None,
-        }
+        S::read(self.cell(column, track)?)
     }
 
     /// The byte of a place.
     fn cell(&self, column: usize, track: usize) -> Option<u8>
-        ensures { CellTold self.now.input.now self.now.shape.tracks self.now.shape.columns column track result }
+        ensures { CellTold self.now.input.now self.now.tracks self.now.columns column track result }
     {
-        let Some(at) = self.place(column, track) else {
-            return None;
-        };
-        if at >= self.input.len() {
-            return None;
-        }
-        Some(self.input[at])
+        self.input.get(self.place(column, track)?).copied()
     }
 
     /// Where in the input the byte of a place stands.
     fn place(&self, column: usize, track: usize) -> Option<usize>
-        ensures { MatchOption result (has_place self.now.shape.tracks self.now.shape.columns column track ≡ false) (λ at. (has_place self.now.shape.tracks self.now.shape.columns column track ≡ true) × (at ≡ byte_place self.now.shape.tracks column track)) }
+        ensures { MatchOption result (has_place self.now.tracks self.now.columns column track ≡ false) (λ at. (has_place self.now.tracks self.now.columns column track ≡ true) × (at ≡ byte_place self.now.tracks column track)) }
     {
-        let tracks = usize::from(self.shape.tracks);
-        if column < 1 || column > usize::from(self.shape.columns) || track < 1 || track > tracks {
+        let tracks = self.tracks as usize;
+        if column < 1 || column > self.columns as usize || track < 1 || track > tracks {
             return None;
         }
         let a_block = 502 / tracks * tracks;

@@ -1,13 +1,16 @@
 //! Writing a score as a book.
 
-ghost use Rattle.std.specs.Prelude.{◌≡◌, ◌+◌, ◌*◌, ◌<◌, ◌≤◌, min, ◌∷◌, ◌++◌, map, length, take, drop};
-ghost use Rattle.book.specs.Blocks.{two, block_bytes, title_letter, columns_letter};
+ghost use Rattle.std.specs.Prelude.{◌≡◌, ◌+◌, ◌*◌, ◌<◌, ◌≤◌, ◌++◌, map, length, take, drop};
+ghost use Rattle.std.specs.Slice.Iter.{chunk_count};
+ghost use Rattle.book.specs.Blocks.{block_bytes};
 ghost use Rattle.book.specs.Grids.{spelled, bytes_of, blocks_for, column_blocks};
+ghost use Rattle.book.specs.Letters.{letter_byte};
 ghost use Rattle.book.specs.Writing.{Written};
 
 use super::fault::TooShort;
 use super::grid::Grid;
-use super::sealing::{has_room, put_symbols, seal};
+use super::letter::Letter;
+use super::sealing::{fill_block, has_room};
 use notation::Symbol;
 
 impl<S: Symbol> Grid<'_, S> {
@@ -18,51 +21,43 @@ impl<S: Symbol> Grid<'_, S> {
         let blocks = blocks_for(self.tracks, self.columns);
         let needed = 512 * (1 + blocks);
         has_room(out, needed)?;
-        write_title(
+        let [high, low] = (self.columns as u16).to_be_bytes();
+        write_block::<S>(
             &mut out[0..512],
-            S::number(),
-            self.tracks as u8,
-            self.columns as u16,
+            Letter::Title,
+            0,
+            &[self.tracks as u8, high, low],
+            &[],
         );
-        write_columns::<S>(out, self.symbols, 502 / self.tracks * self.tracks, blocks);
+        write_columns::<S>(out, self.symbols, 502 / self.tracks * self.tracks);
         Ok(needed)
     }
 }
 
-fn write_title(out: &mut [u8], kind: u8, tracks: u8, columns: u16)
+/// Writes a block of the kind. Its payload is some bytes and then symbols, of which it takes as many
+/// as it holds.
+fn write_block<S: Symbol>(out: &mut [u8], letter: Letter, number: u16, front: &[u8], symbols: &[S])
     requires { length out.old ≡ 512 }
-    ensures { out.new ≡ block_bytes title_letter kind 0 (tracks ∷ two columns) }
+    ensures { out.new ≡ block_bytes (letter_byte letter) S.kind.number number (take 502 (front.now ++ map S.byte symbols.now)) }
 {
-    out[6] = tracks;
-    out[7] = (columns / 256) as u8;
-    out[8] = (columns % 256) as u8;
-    seal(out, 72, kind, 0, 3);
+    match out.first_chunk_mut::<512>() {
+        Some(block) => fill_block::<S>(block, u8::from(letter), number, front, symbols),
+        None => unreachable(),
+    }
 }
 
-fn write_block<S: Symbol>(out: &mut [u8], number: u16, symbols: &[S])
-    requires whole_block { length out.old ≡ 512 }
-    requires payload_fits { length symbols.now ≤ 502 }
-    ensures { out.new ≡ block_bytes columns_letter S.kind.number number (map S.byte symbols.now) }
+/// Writes column blocks after the title, each with so many symbols, the last perhaps with fewer.
+fn write_columns<S: Symbol>(out: &mut [u8], symbols: &[S], a_block: usize)
+    requires room { 512 * (1 + chunk_count (length symbols.now) a_block) ≤ length out.old }
+    requires few { chunk_count (length symbols.now) a_block < 65536 }
+    requires some { 0 < a_block }
+    requires small { a_block ≤ 502 }
+    ensures { out.new ≡ take 512 out.old ++ column_blocks S.kind.number a_block 1 (chunk_count (length symbols.now) a_block) (map S.byte symbols.now) ++ drop (512 * (1 + chunk_count (length symbols.now) a_block)) out.old }
 {
-    put_symbols::<S>(out, 6, symbols);
-    seal(out, 67, S::number(), number, symbols.len() as u16);
-}
-
-/// Writes so many column blocks after the title, each with so many symbols, the last perhaps with fewer.
-fn write_columns<S: Symbol>(out: &mut [u8], symbols: &[S], a_block: usize, blocks: usize)
-    requires room { 512 * (1 + blocks) ≤ length out.old }
-    requires small { (a_block ≤ 502) × (blocks < 65536) }
-    ensures { out.new ≡ take 512 out.old ++ column_blocks S.kind.number a_block 1 blocks (map S.byte symbols.now) ++ drop (512 * (1 + blocks)) out.old }
-{
-    for m in 0..blocks {
+    for (m, part) in symbols.chunks(a_block).enumerate() {
         let n = m + 1;
-        let from = bound(m * a_block, symbols.len());
-        let to = bound(from + a_block, symbols.len());
-        write_block::<S>(
-            &mut out[512 * n..512 * n + 512],
-            n as u16,
-            &symbols[from..to],
-        );
+        let block = &mut out[512 * n..512 * n + 512];
+        write_block::<S>(block, Letter::Columns, n as u16, &[], part);
     }
 }
 
@@ -71,13 +66,5 @@ fn blocks_for(tracks: usize, columns: usize) -> usize
     requires { (1 ≤ tracks) × ((tracks ≤ 16) × (columns ≤ 4096)) }
     ensures { (result ≡ blocks_for tracks columns) × (result < 65536) }
 {
-    let a_block = 502 / tracks;
-    (columns + (a_block - 1)) / a_block
-}
-
-/// A place among symbols, or their end where it lies past them.
-fn bound(at: usize, length: usize) -> usize
-    ensures { result ≡ min at length }
-{
-    if at < length { at } else { length }
+    columns.div_ceil(502 / tracks)
 }

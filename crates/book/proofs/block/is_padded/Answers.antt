@@ -10,4 +10,4 @@ past_payload b n r e l h =
     rw t (h ∙ ap blank (between_is b (6 + n) 508) ∙ ap (λ m. blank (drop (6 + m) (take 508 b))) e)
 
 pub returns-then-len-le502 : goal.returns-then-len-le502
-returns-then-len-le502 c = past_payload c.args.bytes.now c.two_bytes-len.result c.is_blank.result c.two_bytes-len.ensures c.if-len-le502.true c.is_blank.ensures
+returns-then-len-le502 c = past_payload c.args.bytes.now c.from-len.result c.is_blank.result (c.from-len.ensures ∙ c.number_of.ensures) c.if-len-le502.true c.is_blank.ensures

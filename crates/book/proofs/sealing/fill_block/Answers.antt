@@ -42,15 +42,15 @@ returns g c =
     let m = c.min-before.result in
     let n = c.min-after.result in
     let copied = c.copy_from_slice.new.self in
-    let s = map byte (take (n - 0) symbols) in
+    let s = map byte (take n symbols) in
     let lm = length-map symbols byte in
-    let placed : copied ≡ take m front = c.copy_from_slice.ensures.after ∙ ap (λ j. take j front) (let e : m - 0 ≡ m = omega arith in e) in
+    let placed : copied ≡ take m front = c.copy_from_slice.ensures.after in
     let lc : length copied ≡ m = ap length placed ∙ length-take-le m front (omega (arith, c.min-before.ensures)) in
-    let ls : length s ≡ n = length-map (take (n - 0) symbols) byte ∙ length-take-le (n - 0) symbols (omega (arith, c.min-after.ensures)) ∙ omega arith in
+    let ls : length s ≡ n = length-map (take n symbols) byte ∙ length-take-le n symbols (omega (arith, c.min-after.ensures)) in
     let put = put_mid 6 (6 + m - 6) d copied in
-    let rest = drop (6 + m + length (take (n - 0) symbols)) put in
+    let rest = drop (6 + m + length (take n symbols)) put in
     let head : take (6 + m) put ≡ take 6 d ++ copied = take-put_mid 6 (6 + m - 6) d copied (6 + m) (omega (arith, lc)) (omega arith) in
     let p = in_places d c.put_symbols.new.out copied s rest (m + n) (omega arith) (omega (arith, lc, ls)) (c.put_symbols.ensures ∙ ap (λ x. x ++ (s ++ rest)) head) in
-    let spelled : s ≡ take n (map byte symbols) = sym (take-map byte (n - 0) symbols) ∙ ap (λ j. take j (map byte symbols)) (let e : n - 0 ≡ n = omega arith in e) in
+    let spelled : s ≡ take n (map byte symbols) = sym (take-map byte n symbols) in
     let all : copied ++ s ≡ take 502 (front ++ map byte symbols) = (λ i. placed i ++ spelled i) ∙ held_both front (map byte symbols) m n c.min-before.ensures (c.min-after.ensures ∙ ap (λ j. min j (502 - m)) (sym lm)) in
     c.seal.ensures ∙ (λ i. block_bytes c.args.letter (c.number.ensures i) c.args.number ((p ∙ all) i))

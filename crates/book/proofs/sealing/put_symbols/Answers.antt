@@ -14,7 +14,7 @@ pub loop-i-init : goal.loop-i-init
 loop-i-init g c = paste_none c.args.out.now c.args.at (map g.S.Symbol.byte c.args.symbols.now)
 
 pub loop-i-preserved : goal.loop-i-preserved
-loop-i-preserved g c = symbol_more g.S.Symbol.byte c.args.symbols.now c.args.out.now c.loop-i.out c.args.at c.loop-i.i c.write.result c.index-symbols-i.result c.requires c.loop-i-test.true c.loop-i.invariant c.index-symbols-i.is c.write.ensures
+loop-i-preserved g c = symbol_more g.S.Symbol.byte c.args.symbols.now c.args.out.now c.loop-i.out c.args.at c.loop-i.i c.write.result c.index-symbols-i.result (omega arith) c.loop-i-test.true c.loop-i.invariant c.index-symbols-i.is c.write.ensures
 
 pub returns : goal.returns
 returns g c =

@@ -19,4 +19,5 @@ sealed d headed padded done l k n len long fits e1 e2 e3 =
 
 pub returns : goal.returns
 returns c =
-    sealed c.args.out.now c.put_header.new.out c.pad.new.out c.put_check.new.out c.args.letter c.args.kind c.args.number c.args.len c.requires.whole_block c.requires.payload_fits c.put_header.ensures c.pad.ensures c.put_check.ensures
+    let padded = c.pad.ensures ∙ ap (λ n. take (6 + n) c.put_header.new.out ++ replicate (508 - (6 + n)) 0 ++ drop 508 c.put_header.new.out) c.from.ensures in
+    sealed c.args.out.now c.put_header.new.out c.pad.new.out c.put_check.new.out c.args.letter c.args.kind c.args.number c.args.len c.told-out c.requires c.put_header.ensures padded c.put_check.ensures
