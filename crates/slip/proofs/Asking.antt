@@ -1,15 +1,14 @@
 -- Slips that no rule refuses are the bytes of the question that they ask, and the bytes of a question are not refused.
-use Rattle.std.proofs.Common.{◌≡◌, ℕ, suc, ◌+◌, ◌-◌, ◌*◌, ◌/◌, ◌%◌, ◌≤◌, true, ◌&&◌, T, eqb, leb, List, ◌∷◌, ◌++◌, length, get_or, take, drop, replicate, Some, None, Ok, Err, sym, refl, ap, ◌∙◌, subst, arith}
+use Rattle.std.proofs.Common.{◌≡◌, ℕ, suc, ◌+◌, ◌-◌, ◌*◌, ◌/◌, ◌%◌, ◌≤◌, true, ◌&&◌, T, eqb, leb, List, [], ◌∷◌, ◌++◌, map, length, get_or, take, drop, replicate, None, Ok, Err, Result, sym, refl, ap, ◌∙◌, subst, arith}
 use Rattle.std.specs.List.{AllByRecursion}
-use Rattle.std.proofs.lemmas.List.{drop_more, length-take-le, length-drop, take_at, append_assoc}
+use Rattle.std.proofs.lemmas.List.{length-map, take_all, drop_more, length-take-le, length-drop, take_at, append_assoc}
 use Rattle.std.proofs.lemmas.Bool.{and_parts, and_from, eqb-true, eq-eqb, leb-true}
 use Rattle.notation.specs.Kind.{Kind, readable}
 use Rattle.notation.specs.Known.{known}
-use Rattle.book.specs.Blocks.{block_bytes, body, four, weighted, letter, payload_length, payload, slip_letter, block_refusal}
+use Rattle.book.specs.Blocks.{two, block_bytes, body, four, weighted, letter, payload_length, payload, slip_letter, block_refusal}
 use Rattle.book.specs.Books.{expected, symbols_refusal}
-use Rattle.slip.specs.Faults.{slip_told}
-use Rattle.slip.specs.Slips.{Inquiry, InquiryOf, in_range, slip_payload, slip_bytes, asked, slip_fields, slip_refusal}
-use Rattle.slip.specs.SlipReading.{SlipReading, mode_number, price_number}
+use Rattle.slip.specs.Slips.{posed, Inquiry, InquiryOf, in_range, slip_payload, slip_bytes, asked, slip_fields, slip_refusal}
+use Rattle.slip.specs.SlipReading.{SlipReading, Checked}
 use Rattle.slip.specs.declared.fault.SlipFault.{SlipFault}
 use Rattle.book.specs.declared.refusal.Layer.TheVariants.{Slip as OfSlip}
 use Rattle.slip.specs.declared.view.Slip.{Slip}
@@ -109,32 +108,27 @@ asked_again k input q known-kind lawful e =
     (ap (slip_refusal k) e ∙ r.0, ap asked e ∙ r.1)
 
 module _ {S : Type 0} (k : Kind) (input : List ℕ) where
-  pub slip_ok : Bytes input → slip_refusal k input ≡ None → (s : Slip S) → s.limit ≡ (asked input).limit → mode_number s.mode ≡ (asked input).mode → price_number s.price ≡ (asked input).price → s.query.now ≡ (asked input).query → SlipReading k input (Ok s)
-  slip_ok bytes none s limit mode price query =
+  pub slip_reading : Bytes input → (r : Result (Slip S) SlipFault) → Checked k input r → SlipReading k input r
+  slip_reading bytes (Ok s) (none, fields) =
       let w = slip_granted k input bytes none in
       record {
         by_rules = none;
-        granted = (is_T (known k.number) w.0, record { question = w.1; limit = limit; mode = mode; price = price; query = query }, w.2);
+        granted = (is_T (known k.number) w.0, record { question = w.1; limit = fields.limit; mode = fields.mode; price = fields.price; query = fields.query }, w.2);
         every = λ q known-kind lawful e. (refl, (asked_again k input q known-kind lawful e).1);
       }
-
-  pub slip_err : (f : SlipFault) → slip_refusal k input ≡ Some (slip_told f) → SlipReading {S = S} k input (Err f)
-  slip_err f refused =
+  slip_reading bytes (Err f) refused =
       record {
         by_rules = refused;
         granted = tt;
         every = λ q known-kind lawful e. let none = (asked_again k input q known-kind lawful e).0 in let z : ◌≡◌ {A = ℕ} 0 1 = cc in absurd (omega arith);
       }
 
--- a slip is one block
-pub length_slip : (k : Kind) (q : Inquiry) → length q.query ≤ 64 → length (slip_bytes k q) ≡ 512
+-- the block of a question's fields and symbols is the slip of that question
+pub slip_put : {S : Type 0} (byte : S → ℕ) (k : Kind) (limit mode price l : ℕ) (front : List ℕ) (query : List S) → length query ≤ 64 → l ≡ slip_letter → front ≡ two limit ++ (mode ∷ price ∷ length query ∷ []) → block_bytes l k.number 0 (take 502 (front ++ map byte query)) ≡ slip_bytes k (posed byte limit mode price query)
 unfolding slip_bytes
-length_slip k q few = length_block slip_letter k.number 0 (slip_payload q) (omega arith)
-
-pub slip_is : (k : Kind) (q : Inquiry) → block_bytes slip_letter k.number 0 (slip_payload q) ≡ slip_bytes k q
-unfolding slip_bytes
-slip_is k q = refl
-
--- a part of the input that ends n bytes on is so many bytes
-pub notes_part : (b : List ℕ) (n m : ℕ) → n ≡ m → take (11 + n - 11) (drop 11 b) ≡ take m (drop 11 b)
-notes_part b n m e = ap (λ x. take x (drop 11 b)) (let f : 11 + n - 11 ≡ m = omega arith in f)
+slip_put byte k limit mode price l front query few mark is =
+    let payload = two limit ++ (mode ∷ price ∷ length query ∷ map byte query) in
+    let notes = length-map query byte in
+    (λ i. block_bytes (mark i) k.number 0 (take 502 (is i ++ map byte query)))
+    ∙ ap (block_bytes slip_letter k.number 0) (take_all 502 payload (omega (arith, notes)))
+    ∙ ap (λ n. block_bytes slip_letter k.number 0 (two limit ++ (mode ∷ price ∷ n ∷ map byte query))) (sym notes)

@@ -1,3 +1,4 @@
+pub mod Prices
 pub mod Slips
 pub mod Faults
 pub mod SlipReading

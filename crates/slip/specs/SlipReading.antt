@@ -1,31 +1,27 @@
 -- What reading and writing a slip promise.
-use Rattle.std.specs.Prelude.{◌≡◌, ℕ, ◌-◌, ◌≤◌, Bool, true, false, ◌&&◌, T, List, length, is_ok, IfOk, Some, None, Ok, Err, Option, Result, MatchOption, MatchResult, nat_le, slice_index}
+use Rattle.std.specs.Prelude.{◌≡◌, ℕ, ◌-◌, Bool, true, false, ◌&&◌, T, List, length, is_ok, IfOk, Some, None, Ok, Err, Option, Result, MatchOption, MatchResult, nat_le, slice_index}
 use Rattle.notation.specs.Kind.{Kind}
 use Rattle.notation.specs.Known.{known}
+use Rattle.notation.specs.Modes.{mode_number}
+use Rattle.slip.specs.Prices.{price_number}
 use Rattle.slip.specs.Faults.{slip_told}
 use Rattle.slip.specs.Slips.{Inquiry, InquiryOf, slip_bytes, slip_refusal, asked, in_range}
 use Rattle.book.specs.Writing.{Written}
 use Rattle.slip.specs.declared.fault.SlipFault.{SlipFault}
 use Rattle.slip.specs.declared.fault.SlipWriteFault.{SlipWriteFault}
 use Rattle.slip.specs.declared.fault.SlipWriteFault.TheVariants.{OutOfRange, OfOutput}
-use Rattle.notation.specs.declared.Mode.{Mode}
-use Rattle.notation.specs.declared.Mode.TheVariants.{Untransposed, AnyTransposition}
-use Rattle.slip.specs.declared.view.Fields.{Fields}
-use Rattle.slip.specs.declared.view.PriceKind.{PriceKind}
-use Rattle.slip.specs.declared.view.PriceKind.TheVariants.{Changes, ChangesThenSilence}
 use Rattle.slip.specs.declared.view.Slip.{Slip}
 
-abbrev pub mode_number : Mode → ℕ
-mode_number Untransposed = 0
-mode_number AnyTransposition = 1
+-- a slip with the fields of the question that a block asks
+pub record Spells {S : Type 0} (b : List ℕ) (s : Slip S) : Type 0 where
+  pub limit : s.limit ≡ (asked b).limit
+  pub mode : mode_number s.mode ≡ (asked b).mode
+  pub price : price_number s.price ≡ (asked b).price
+  pub query : s.query.now ≡ (asked b).query
 
-abbrev pub price_number : PriceKind → ℕ
-price_number Changes = 1
-price_number ChangesThenSilence = 2
-
--- checking some bytes as a slip of the kind: by the rules, and what it tells are the fields of the question that they ask
-abbrev pub Checked : Kind → List ℕ → Result Fields SlipFault → Type 0
-Checked k b r = MatchResult r (λ f. (slip_refusal k b ≡ None) × (f.limit ≡ (asked b).limit) × (mode_number f.mode ≡ (asked b).mode) × (price_number f.price ≡ (asked b).price) × (f.notes ≡ slice_index b 10) × (length b ≡ 512) × (f.notes ≤ 64)) (λ f. slip_refusal k b ≡ Some (slip_told f))
+-- checking some bytes as a slip of the kind, by the rules
+abbrev pub Checked : {S : Type 0} → Kind → List ℕ → Result (Slip S) SlipFault → Type 0
+Checked k b r = MatchResult r (λ s. (slip_refusal k b ≡ None) × Spells b s) (λ f. slip_refusal k b ≡ Some (slip_told f))
 
 -- a slip that was read asks a question of the kind
 pub record Asks {S : Type 0} (k : Kind) (s : Slip S) (q : Inquiry) : Type 0 where

@@ -8,7 +8,7 @@ ghost use Rattle.slip.specs.declared.fault.SlipWriteFault.TheVariants.{OfOutput}
 use book::{BlockFault, Layer, Refusal, TooShort};
 
 /// Why some bytes are no slip.
-#[derive(Clone, Copy)]
+#[derive(Clone, Copy, Debug, PartialEq, Eq)]
 pub enum SlipFault {
     /// The input is not one block long.
     Length { bytes: usize },
@@ -55,7 +55,7 @@ impl SlipFault {
 }
 
 /// Why a slip is not written.
-#[derive(Clone, Copy)]
+#[derive(Clone, Copy, Debug, PartialEq, Eq)]
 pub enum SlipWriteFault {
     /// A field is out of range.
     OutOfRange,
