@@ -3,16 +3,17 @@ use Rattle.std.proofs.Common.{◌≡◌, ℕ, zero, suc, ◌-◌, ◌*◌, ◌/�
 use Rattle.std.proofs.lemmas.List.{take_at}
 use Rattle.std.proofs.lemmas.Bool.{cond-true, and_parts, cases_eq}
 use Rattle.notation.specs.Kind.{Kind, Lawful as KindLaws}
-use Rattle.notation.specs.declared.Mode.{Mode}
-use Rattle.notation.specs.declared.Mode.TheVariants.{Untransposed, AnyTransposition}
+use Rattle.notation.specs.declared.mode.Mode.{Mode}
+use Rattle.notation.specs.declared.mode.Mode.TheVariants.{Untransposed, AnyTransposition}
 use Rattle.book.specs.Describing.{refused_line}
 use Rattle.book.specs.Refusals.{refusal, unless, then}
-use Rattle.slip.specs.SlipReading.{mode_number, price_number}
+use Rattle.notation.specs.Modes.{mode_number}
+use Rattle.slip.specs.Prices.{price_number}
 use Rattle.slip.specs.Slips.{Inquiry, in_range, slip_refusal, asked as slip-asked}
 use Rattle.book.specs.declared.refusal.Layer.TheVariants.{Limit}
 use Rattle.book.specs.declared.refusal.Refusal.{Refusal}
-use Rattle.slip.specs.declared.view.PriceKind as slip
-use Rattle.slip.specs.declared.view.PriceKind.TheVariants.{Changes as at-changes-price, ChangesThenSilence as at-silence-price}
+use Rattle.slip.specs.declared.price_kind.PriceKind as slip
+use Rattle.slip.specs.declared.price_kind.PriceKind.TheVariants.{Changes as at-changes-price, ChangesThenSilence as at-silence-price}
 use Rattle.price.specs.Meanings.{changes_of, tally_of}
 use Rattle.price.specs.Prices.{by_changes, by_changes_then_silence}
 use Rattle.price.specs.Pricing.{Pricing}
@@ -36,7 +37,8 @@ use Rattle.finder.specs.declared.outcome.Outcome.{Outcome}
 use Rattle.finder.specs.declared.outcome.Outcome.TheVariants.{NoCall, Refused, Done, Size, Transposed, First, Second}
 use Rattle.finder.specs.declared.outcome.Performance.{Performance}
 use Rattle.report.specs.Outcomes.{kind_at, refused_by, first_of, answer_text, outcome_text, text_by}
-use Rattle.report.specs.Reports.{room_for, mode_of, question_of, asking_refusal, FoundTold, AnswerTold, InquiryTold, PartsTold, Poses}
+use Rattle.report.specs.Reports.{mode_of, question_of, asking_refusal, FoundTold, AnswerTold, InquiryTold, PartsTold, Poses}
+use Rattle.report.specs.Tracks.{room_for}
 use Rattle.report.specs.Wording.{none_line, found_text}
 
 -- what passes a test at each number below another

@@ -1,4 +1,3 @@
-pub mod Silences
-pub mod Notes
+pub mod Fronts
 pub mod Calls
 pub mod Inputs

@@ -1,3 +1,4 @@
+pub mod Tracks
 pub mod Wording
 pub mod Outcomes
 pub mod Reports

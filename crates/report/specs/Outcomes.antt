@@ -1,9 +1,10 @@
 -- The text on the outcomes of filling a score and of a question.
+use Rattle.std.specs.Option.{unwrap_or}
 use Rattle.std.specs.Prelude.{ℕ, List, [], take, Some, None, vec_items, Option}
 use Rattle.book.specs.Describing.{refused_line}
 use Rattle.book.specs.declared.refusal.Refusal.{Refusal}
-use Rattle.slip.specs.declared.view.PriceKind as slip
-use Rattle.slip.specs.declared.view.PriceKind.TheVariants.{Changes, ChangesThenSilence}
+use Rattle.slip.specs.declared.price_kind.PriceKind as slip
+use Rattle.slip.specs.declared.price_kind.PriceKind.TheVariants.{Changes, ChangesThenSilence}
 use Rattle.splitting.specs.Score.{Score}
 use Rattle.splitting.specs.declared.Answer.{Answer}
 use Rattle.splitting.specs.declared.Answer.TheVariants.{None as none, Found as found}
@@ -31,8 +32,7 @@ refused_by (Second t) = None
 
 -- a refusal that comes before another
 abbrev pub first_of : Option Refusal → Refusal → Refusal
-first_of None r = r
-first_of (Some q) r = q
+first_of before r = unwrap_or before r
 
 -- the text on an answer, whose pieces are the front of a list
 abbrev pub answer_text : {P : Type 0} → Score → Answer P → List Piece → List ℕ

@@ -1,17 +1,18 @@
 -- What a report on some input says.
 use Rattle.std.specs.Prelude.{◌≡◌, ℕ, ◌-◌, ◌/◌, ◌%◌, ◌≤◌, min, Bool, cond, ◌&&◌, ◌⊎◌, List, length, take, drop, Ok, Err, MatchBool, Option, Result, MatchOption, ◌==◌, nat_le, slice_index}
-use Rattle.notation.specs.declared.Mode.{Mode}
-use Rattle.notation.specs.declared.Mode.TheVariants.{Untransposed, AnyTransposition}
+use Rattle.notation.specs.declared.mode.Mode.{Mode}
+use Rattle.notation.specs.declared.mode.Mode.TheVariants.{Untransposed, AnyTransposition}
 use Rattle.notation.specs.Kind.{Kind}
 use Rattle.book.specs.Describing.{named_kind, refused_line}
 use Rattle.book.specs.Refusals.{refusal, unless, then}
-use Rattle.slip.specs.SlipReading.{mode_number, price_number}
+use Rattle.notation.specs.Modes.{mode_number}
+use Rattle.slip.specs.Prices.{price_number}
 use Rattle.slip.specs.Slips.{Inquiry, slip_refusal, asked}
 use Rattle.book.specs.Writing.{Written}
 use Rattle.book.specs.declared.fault.TooShort.{TooShort}
 use Rattle.book.specs.declared.refusal.Layer.TheVariants.{File}
 use Rattle.book.specs.declared.refusal.Refusal.{Refusal}
-use Rattle.slip.specs.declared.view.PriceKind.{PriceKind}
+use Rattle.slip.specs.declared.price_kind.PriceKind.{PriceKind}
 use Rattle.price.specs.Pricing.{Pricing}
 use Rattle.price.specs.Prices.{by_changes, by_changes_then_silence}
 use Rattle.splitting.specs.Answer.{NoWay, Right}
@@ -22,6 +23,7 @@ use Rattle.splitting.specs.declared.Piece.{Piece}
 use Rattle.search.specs.Questions.{question_refusal}
 use Rattle.finder.specs.Edits.{book_columns}
 use Rattle.finder.specs.ScoreRules.{fill_refusal}
+use Rattle.report.specs.Tracks.{lawful_tracks, room_for}
 use Rattle.report.specs.Wording.{none_line, found_text}
 use Rattle.report.specs.declared.fault.ReportFault.{ReportFault}
 use Rattle.report.specs.declared.fault.ReportFault.TheVariants.{Memory, OfOutput}
@@ -38,15 +40,8 @@ abbrev pub slip_part : List ℕ → List ℕ
 slip_part input = drop (length input - 512) input
 
 -- the track count that a book names: byte 6 of its first block, or 1 in the place of an unlawful one
-abbrev pub lawful_tracks : ℕ → ℕ
-lawful_tracks n = cond (nat_le 1 n && nat_le n 16) n 1
-
 abbrev pub named_tracks : List ℕ → ℕ
 named_tracks input = lawful_tracks (slice_index input 6)
-
--- of 4,096 symbols of memory a score takes as many whole columns as fit
-abbrev pub room_for : (tracks : ℕ) → ℕ
-room_for tracks = 4096 / tracks
 
 abbrev pub mode_of : ℕ → Mode
 mode_of n = cond (n == 0) Untransposed AnyTransposition

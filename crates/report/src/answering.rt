@@ -1,15 +1,17 @@
 //! Answering a slip about a book, by lists of calls on a score.
 
-ghost use Rattle.std.specs.Prelude.{◌≡◌, ◌*◌, ◌≤◌, map, IfOk, vec_len, string_bytes};
+ghost use Rattle.std.specs.Prelude.{◌≡◌, map, IfOk, string_bytes};
 ghost use Rattle.book.specs.Describing.{refused_line};
 ghost use Rattle.slip.specs.SlipReading.{Asks};
 ghost use Rattle.slip.specs.Slips.{Inquiry};
 ghost use Rattle.finder.specs.ScoreRules.{fill_refusal};
 ghost use Rattle.report.specs.Outcomes.{first_of};
-ghost use Rattle.report.specs.Reports.{room_for, Poses, InquiryTold, PartsTold};
+ghost use Rattle.report.specs.Reports.{Poses, InquiryTold, PartsTold};
+ghost use Rattle.report.specs.Tracks.{room_for, lawful_tracks};
 
-use super::parts::{kind_at, query_of, rests};
-use super::telling::{first_of, refusal_of, text_by};
+use super::memory::Memory;
+use super::parts::kind_at;
+use super::telling::{refusal_of, text_by};
 use book::{Refusal, refused_line};
 use finder::{Call, Room, perform};
 use notation::{Mode, Symbol};
@@ -27,35 +29,45 @@ const ROOM: Room = Room {
 // The text where the slip is refused: a refusal of the book comes before it.
 fn turned_away<S: Symbol>(
     heap: Global,
-    tracks: usize,
-    memory: Vec<S>,
+    memory: Memory<S>,
     book: &[u8],
     refusal: Refusal,
 ) -> Result<String, AllocError>
-    requires { (1 ≤ tracks) × (tracks ≤ 16) × (vec_len memory ≡ room_for tracks * tracks) }
-    ensures { IfOk result (λ t. string_bytes t ≡ refused_line (first_of (fill_refusal S.kind tracks (room_for tracks) book.now) refusal)) }
+    ensures { IfOk result (λ t. string_bytes t ≡ refused_line (first_of (fill_refusal S.kind memory.tracks (room_for memory.tracks) book.now) refusal)) }
 {
+    let Memory { tracks, symbols } = memory;
     let mut calls = Vec::new(heap);
     calls.push(Call::Fill(book))?;
-    let performed = perform::<S, Changes, ChangesThenSilence>(heap, tracks, memory, &calls)?;
+    let performed = perform::<S, Changes, ChangesThenSilence>(heap, tracks, symbols, &calls)?;
     let filling = refusal_of(&performed.outcomes[0]);
-    refused_line(heap, first_of(filling, refusal))
+    refused_line(heap, filling.unwrap_or(refusal))
 }
 
-// The text on a query about a book.
-fn told_of<'a, S: Symbol>(
-    heap: Global,
-    tracks: usize,
-    memory: Vec<S>,
-    book: &'a [u8],
+// What a slip asks, its query as symbols.
+#[derive(Clone, Copy)]
+struct Asked<'a, S> {
     limit: u32,
     mode: Mode,
     price: PriceKind,
     query: &'a [S],
+}
+
+// The text on what is asked about a book.
+fn told_of<'a, S: Symbol>(
+    heap: Global,
+    memory: Memory<S>,
+    book: &'a [u8],
+    asked: Asked<'a, S>,
 ) -> Result<String, AllocError>
-    requires { (1 ≤ tracks) × (tracks ≤ 16) × (vec_len memory ≡ room_for tracks * tracks) }
-    ensures { IfOk result (λ t. (q : Inquiry) → Poses limit mode price (map S.byte query.now) q → InquiryTold S.kind tracks book.now q (string_bytes t)) }
+    ensures { IfOk result (λ t. (q : Inquiry) → Poses asked.entry.limit asked.entry.mode asked.entry.price (map S.byte asked.entry.query.now) q → InquiryTold S.kind memory.tracks book.now q (string_bytes t)) }
 {
+    let Memory { tracks, symbols } = memory;
+    let Asked {
+        limit,
+        mode,
+        price,
+        query,
+    } = asked;
     let at = kind_at(price);
     let mut calls = Vec::new(heap);
     calls.push(Call::Fill(book))?;
@@ -65,7 +77,7 @@ fn told_of<'a, S: Symbol>(
         room: ROOM,
         at,
     })?;
-    let performed = perform::<S, Changes, ChangesThenSilence>(heap, tracks, memory, &calls)?;
+    let performed = perform::<S, Changes, ChangesThenSilence>(heap, tracks, symbols, &calls)?;
     let filling = refusal_of(&performed.outcomes[0]);
     text_by(heap, filling, &performed.outcomes[2])
 }
@@ -73,41 +85,34 @@ fn told_of<'a, S: Symbol>(
 // The text on what a slip asks about a book.
 fn answered<S: Symbol>(
     heap: Global,
-    tracks: usize,
-    memory: Vec<S>,
+    memory: Memory<S>,
     book: &[u8],
     slip: &Slip<'_, S>,
 ) -> Result<String, AllocError>
-    requires { (1 ≤ tracks) × (tracks ≤ 16) × (vec_len memory ≡ room_for tracks * tracks) }
-    ensures { IfOk result (λ t. (q : Inquiry) → Asks S.kind slip.now q → InquiryTold S.kind tracks book.now q (string_bytes t)) }
+    ensures { IfOk result (λ t. (q : Inquiry) → Asks S.kind slip.now q → InquiryTold S.kind memory.tracks book.now q (string_bytes t)) }
 {
-    let query = query_of(heap, slip)?;
-    let limit = u32::from(slip.limit());
-    told_of(
-        heap,
-        tracks,
-        memory,
-        book,
-        limit,
-        slip.mode(),
-        slip.price(),
-        query.as_slice(),
-    )
+    let query = slip.query(heap)?;
+    let asked = Asked {
+        limit: u32::from(slip.limit()),
+        mode: slip.mode(),
+        price: slip.price(),
+        query: query.as_slice(),
+    };
+    told_of(heap, memory, book, asked)
 }
 
-// The text on a book and a slip, both of the kind `S`.
+// The text on a book that names so many tracks and a slip, both of the kind `S`.
 pub(crate) fn text_as<S: Symbol>(
     heap: Global,
-    tracks: usize,
+    named: u8,
     book: &[u8],
     slip: &[u8],
 ) -> Result<String, AllocError>
-    requires { (1 ≤ tracks) × (tracks ≤ 16) }
-    ensures { IfOk result (λ t. PartsTold S.kind tracks book.now slip.now (string_bytes t)) }
+    ensures { IfOk result (λ t. PartsTold S.kind (lawful_tracks named) book.now slip.now (string_bytes t)) }
 {
-    let memory = rests::<S>(heap, 4096 / tracks * tracks)?;
+    let memory = Memory::<S>::new(heap, named)?;
     match Slip::<S>::read(slip) {
-        Ok(asked) => answered(heap, tracks, memory, book, &asked),
-        Err(fault) => turned_away(heap, tracks, memory, book, fault.refusal()),
+        Ok(asked) => answered(heap, memory, book, &asked),
+        Err(fault) => turned_away(heap, memory, book, fault.refusal()),
     }
 }

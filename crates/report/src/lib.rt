@@ -3,6 +3,7 @@
 
 mod answering;
 mod fault;
+mod memory;
 mod parts;
 mod reporting;
 mod telling;

@@ -2,7 +2,7 @@
 
 ghost use Rattle.std.specs.Prelude.{◌≡◌, take, IfOk, string_bytes};
 ghost use Rattle.splitting.specs.Score.{Score};
-ghost use Rattle.report.specs.Outcomes.{refused_by, first_of, answer_text, outcome_text, text_by};
+ghost use Rattle.report.specs.Outcomes.{refused_by, answer_text, outcome_text, text_by};
 ghost use Rattle.report.specs.Wording.{found_text};
 
 use super::wording::found_text;
@@ -21,22 +21,11 @@ pub(crate) fn refusal_of<S, P, R>(outcome: &Outcome<S, P, R>) -> Option<Refusal>
     }
 }
 
-// A refusal that comes before another.
-pub(crate) fn first_of(before: Option<Refusal>, refusal: Refusal) -> Refusal
-    ensures { result ≡ first_of before refusal }
-{
-    match before {
-        Some(first) => first,
-        None => refusal,
-    }
-}
-
 // What is found, by the first pieces of a list.
 fn front_text(heap: Global, shift: i32, count: usize, list: &[Piece]) -> Result<String, AllocError>
     ensures { IfOk result (λ t. (score : Score) → string_bytes t ≡ found_text score shift (take count list.now)) }
 {
-    let count = count.min(list.len());
-    found_text(heap, shift, &list[0..count])
+    found_text(heap, shift, &list[..count.min(list.len())])
 }
 
 fn answer_text<P>(heap: Global, told: &Told<P>) -> Result<String, AllocError>

@@ -5,21 +5,10 @@
 ghost use Rattle.std.specs.Prelude.{◌≡◌, ◌+◌, ◌-◌, ◌^◌, ◌<◌, IfOk, string_bytes};
 ghost use Rattle.splitting.specs.Score.{Score};
 ghost use Rattle.splitting.specs.Splitting.{last, gap, silence};
-ghost use Rattle.report.specs.Wording.{signed_shift, first_line, last_note, piece_line, found_text};
+ghost use Rattle.report.specs.Wording.{first_line, last_note, piece_line, found_text};
 
 use splitting::Piece;
 use std::alloc::{AllocError, Global};
-
-// A shift with its sign.
-fn shift_text(heap: Global, shift: i32) -> Result<String, AllocError>
-    ensures { IfOk result (λ t. string_bytes t ≡ signed_shift shift) }
-{
-    if shift < 0 {
-        format!(in heap; "{shift}")
-    } else {
-        format!(in heap; "+{shift}")
-    }
-}
 
 // The last of so many, counted from the first on.
 fn last_of(first: usize, len: usize) -> u128
@@ -32,12 +21,12 @@ fn last_of(first: usize, len: usize) -> u128
 fn piece_line(heap: Global, piece: &Piece) -> Result<String, AllocError>
     ensures { IfOk result (λ t. string_bytes t ≡ piece_line piece.now) }
 {
-    let first = piece.first;
     let note = last_of(piece.first, piece.len);
-    let track = piece.track;
-    let column = piece.column;
     let end = last_of(piece.column, piece.len);
-    format!(in heap; "notes {first}-{note} track {track} columns {column}-{end}\n")
+    format!(in heap;
+        "notes {}-{note} track {} columns {}-{end}\n",
+        piece.first, piece.track, piece.column
+    )
 }
 
 // The gap of a hand-over.
@@ -54,10 +43,10 @@ fn silence_of(pieces: &[Piece]) -> u128
     ensures { (score : Score) → result ≡ silence score pieces.now }
 {
     let mut sum: u128 = 0;
-    let mut i = pieces.len();
-    while i > 1 {
-        i -= 1;
-        sum += gap_between(&pieces[i - 1], &pieces[i]);
+    let mut rest = pieces;
+    while let [piece, next, ..] = rest {
+        sum += gap_between(piece, next);
+        rest = &rest[1..];
     }
     sum
 }
@@ -66,9 +55,7 @@ fn silence_of(pieces: &[Piece]) -> u128
 fn first_line(heap: Global, count: usize, silence: u128, shift: i32) -> Result<String, AllocError>
     ensures { IfOk result (λ t. string_bytes t ≡ first_line count silence shift) }
 {
-    let shift = shift_text(heap, shift)?;
-    let signed = shift.as_str();
-    format!(in heap; "pieces {count} silence {silence} shift {signed}\n")
+    format!(in heap; "pieces {count} silence {silence} shift {shift:+}\n")
 }
 
 // What is found.

@@ -7,7 +7,7 @@ pub returns : goal.returns
 returns g c =
     IfOk-weaker c.told_of.result _ _
     (λ s h q asks.
-    let limit_is = c.from-limit.ensures ∙ c.limit.ensures q asks in
+    let limit_is = c.from.ensures ∙ c.limit.ensures q asks in
     let small = limit_small q.limit q.mode q.price (length q.query) asks.question.fields in
     h q (record {
       small = omega (arith, limit_is, small);
