@@ -8,15 +8,22 @@ use std::alloc::{AllocError, Global};
 const FLIPS: [u8; 3] = [1, 128, 255];
 
 /// How many damages were tried on a book, and how many were refused by 2 with the block damaged.
-pub(crate) fn damaged(heap: Global, book: &[u8]) -> Result<(u32, u32), AllocError> {
+#[derive(Clone, Copy, Default)]
+pub(crate) struct Damage {
+    pub(crate) tried: u32,
+    pub(crate) refused: u32,
+}
+
+/// Damages each byte of a book in turn.
+pub(crate) fn damaged(heap: Global, book: &[u8]) -> Result<Damage, AllocError> {
     let mut copy = book.to_vec(heap)?;
-    let mut tried: u32 = 0;
-    let mut refused: u32 = 0;
+    let mut damage = Damage::default();
     for at in 0..book.len() {
-        refused = refused.saturating_add(damaged_at(copy.as_mut_slice(), at));
-        tried = tried.saturating_add(3);
+        let refused = damaged_at(copy.as_mut_slice(), at);
+        damage.refused = damage.refused.saturating_add(refused);
+        damage.tried = damage.tried.saturating_add(3);
     }
-    Ok((tried, refused))
+    Ok(damage)
 }
 
 /// How many of the damages at a place are refused by 2 with its block.

@@ -8,9 +8,9 @@ mod table;
 
 use again::{book_case, slip_case};
 use anyhow::anyhow;
-use damage::damaged;
+use damage::{Damage, damaged};
 use std::io::{Read, Write};
-use table::case_at;
+use table::{CaseKind, split_case};
 
 fn main(rt: HostRuntime) -> anyhow::Result<()> {
     let mut table = Vec::new(rt.alloc());
@@ -21,31 +21,25 @@ fn main(rt: HostRuntime) -> anyhow::Result<()> {
 
 /// Prints what is told of each case.
 fn run_all(rt: &HostRuntime, table: &[u8]) -> anyhow::Result<()> {
-    let mut at = 0;
-    while let Some(case) = case_at(table, at) {
-        let label = case.label;
-        let content = case.label_end;
-        let end = case.end;
-        let text = if case.is_slip {
-            slip_case(rt.alloc(), &table[content..end])?
-        } else {
-            book_case(rt.alloc(), &table[content..end])?
+    let mut left = table;
+    while let Some((case, rest)) = split_case(left) {
+        let text = match case.kind {
+            CaseKind::Slip => slip_case(rt.alloc(), case.content)?,
+            CaseKind::Book => book_case(rt.alloc(), case.content)?,
         };
-        rt.stdout().write_all(&table[label..content])?;
+        rt.stdout().write_all(case.label)?;
         println!(rt; ": {text}")?;
-        at = end;
+        left = rest;
     }
     Ok(())
 }
 
 /// Damages the first case, a good book, byte by byte.
 fn damage_first(rt: &HostRuntime, table: &[u8]) -> anyhow::Result<()> {
-    let Some(first) = case_at(table, 0) else {
+    let Some((first, _)) = split_case(table) else {
         return Err(anyhow!("no case"));
     };
-    let content = first.label_end;
-    let end = first.end;
-    let (tried, refused) = damaged(rt.alloc(), &table[content..end])?;
+    let Damage { tried, refused } = damaged(rt.alloc(), first.content)?;
     println!(rt; "bytes damaged one at a time: {tried}, refused by 2: {refused}")?;
     Ok(())
 }

@@ -1,37 +1,43 @@
 //! The table: for each case a byte for what it is (`b` a book, `s` a slip), the length of its label
 //! in one byte and of its content in three, then label and content.
 
-ghost use Rattle.std.specs.Prelude.{◌<◌, ◌≤◌, length, IfSome};
-ghost use Rattle.book_table.specs.Bounds.{Inside};
+ghost use Rattle.std.specs.Prelude.{◌<◌, length, IfSome};
 
-/// Where a case stands in the table.
-#[derive(Clone, Copy)]
-pub struct Case {
-    pub is_slip: bool,
-    pub label: usize,
-    pub label_end: usize,
-    pub end: usize,
+/// What a case is.
+#[derive(Clone, Copy, Debug, PartialEq, Eq)]
+pub(crate) enum CaseKind {
+    Book,
+    Slip,
 }
 
-/// The case that begins at a place; none where the table ends.
-pub(crate) fn case_at(table: &[u8], at: usize) -> Option<Case>
-    ensures { IfSome result (λ c. Inside at c (length table.now)) }
+/// A case of the table.
+#[derive(Clone, Copy)]
+pub(crate) struct Case<'a> {
+    pub(crate) kind: CaseKind,
+    pub(crate) label: &'a [u8],
+    pub(crate) content: &'a [u8],
+}
+
+/// The first case, and what follows it; none where the table ends.
+pub(crate) fn split_case(table: &[u8]) -> Option<(Case<'_>, &[u8])>
+    ensures { IfSome result (λ p. length p.1.now < length table.now) }
 {
-    if table.len() < 5 || at > table.len() - 5 {
-        return None;
-    }
-    let label = at + 5;
-    let label_end = label + table[at + 1] as usize;
-    let content = (table[at + 2] as usize * 256 + table[at + 3] as usize) * 256
-        + table[at + 4] as usize;
-    let end = label_end + content;
-    if end > table.len() {
-        return None;
-    }
-    Some(Case {
-        is_slip: table[at] == b's',
-        label,
-        label_end,
-        end,
-    })
+    let (head, rest) = table.split_first_chunk::<5>()?;
+    let [kind, label_len, high, middle, low] = *head;
+    let (label, rest) = rest.split_at_checked(usize::from(label_len))?;
+    let content_len = u32::from_be_bytes([0, high, middle, low]) as usize;
+    let (content, rest) = rest.split_at_checked(content_len)?;
+    let kind = if kind == b's' {
+        CaseKind::Slip
+    } else {
+        CaseKind::Book
+    };
+    Some((
+        Case {
+            kind,
+            label,
+            content,
+        },
+        rest,
+    ))
 }

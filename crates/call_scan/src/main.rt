@@ -2,16 +2,14 @@
 #![tactic(auto)]
 
 mod model;
-mod random;
 mod step;
 
-use anyhow::anyhow;
 use finder::{Outcome, Performance, Score, Terms, Told, perform};
 use model::{CAPACITY, Due, Model, TRACKS};
 use notation::{Pitch, Symbol};
 use price::{Changes, ChangesThenSilence, Entry, Price};
-use random::Random;
-use splitting::{Answer, Piece};
+use prng::Random;
+use splitting::Piece;
 use std::alloc::{AllocError, Global};
 use step::{ROOM, Step, any_step, call_of, part, symbol_of};
 
@@ -23,33 +21,8 @@ const POOL: u32 = 40;
 
 type Came = Outcome<Pitch, Changes, ChangesThenSilence>;
 
-// So many copies of one value.
-fn copies<T: Copy>(heap: Global, x: T, count: usize) -> Result<Vec<T>, AllocError> {
-    let mut all = Vec::new(heap);
-    for _ in 0..count {
-        all.push(x)?;
-    }
-    Ok(all)
-}
-
-// Whether two answers are equal.
-fn is_same<P: Price>(a: Answer<P>, b: Answer<P>) -> bool {
-    match (a, b) {
-        (Answer::None, Answer::None) => true,
-        (Answer::Found(f), Answer::Found(g)) => {
-            f.price.not_above(g.price)
-                && g.price.not_above(f.price)
-                && f.count == g.count
-                && f.shift == g.shift
-                && f.place.column == g.place.column
-                && f.place.track == g.place.track
-        }
-        _ => false,
-    }
-}
-
 // Whether a fresh score gives the same answer.
-fn is_answered<P: Price>(
+fn is_answered<P: Price + PartialEq>(
     heap: Global,
     score: &Score<Pitch>,
     terms: &Terms,
@@ -67,32 +40,24 @@ fn is_answered<P: Price>(
         place: 0,
         price: P::empty(),
     };
-    let mut list = copies(heap, blank, ROOM)?;
-    let mut prices = copies(heap, Option::<P>::None, ROOM)?;
-    let mut window = copies(heap, nowhere, ROOM)?;
-    let mut steps = copies(heap, 0u32, ROOM)?;
-    match score.find(
+    let mut list = vec![in heap; blank; ROOM]?;
+    let mut prices = vec![in heap; Option::<P>::None; ROOM]?;
+    let mut window = vec![in heap; nowhere; ROOM]?;
+    let mut steps = vec![in heap; 0u32; ROOM]?;
+    let answer = score.find(
         terms,
         query,
         &mut list,
         &mut prices,
         &mut window,
         &mut steps,
-    ) {
-        Ok(answer) => Ok(is_same(answer, told.answer)),
-        Err(_) => Ok(false),
-    }
+    );
+    Ok(answer.ok() == Some(told.answer))
 }
 
 // Whether a granted question or size is right.
-fn is_told(
-    heap: Global,
-    model: &Model,
-    query: &[Pitch],
-    rest: Pitch,
-    came: &Came,
-) -> Result<bool, AllocError> {
-    let Some(score) = model.score(heap, rest)? else {
+fn is_told(heap: Global, model: &Model, query: &[Pitch], came: &Came) -> Result<bool, AllocError> {
+    let Some(score) = model.score(heap)? else {
         return Ok(false);
     };
     let Some(terms) = model.terms() else {
@@ -112,16 +77,15 @@ fn is_due(
     model: &Model,
     step: Step,
     query: &[Pitch],
-    rest: Pitch,
     came: &Came,
 ) -> Result<bool, AllocError> {
     match (model.due(step, query), came) {
         (Due::NoCall, Outcome::NoCall) => Ok(true),
         (Due::Done, Outcome::Done) => Ok(true),
         (Due::Refused(number, place), Outcome::Refused(told)) => {
-            Ok(told.number == number && told.place == place as u64)
+            Ok((told.number, told.place) == (number, place as u64))
         }
-        (Due::Answer, _) => is_told(heap, model, query, rest, came),
+        (Due::Answer, _) => is_told(heap, model, query, came),
         _ => Ok(false),
     }
 }
@@ -131,18 +95,17 @@ fn unlike(
     heap: Global,
     pool: &[Pitch],
     steps: &[Step],
-    rest: Pitch,
     outcomes: &[Came],
 ) -> Result<u32, AllocError> {
     let mut model = Model::new(heap);
     let mut count: u32 = 0;
     for (step, came) in steps.iter().zip(outcomes.iter()) {
         let symbols = part(pool, *step);
-        if !is_due(heap, &model, *step, symbols, rest, came)? {
+        if !is_due(heap, &model, *step, symbols, came)? {
             count = count.saturating_add(1);
         }
         if let Due::Done = model.due(*step, symbols) {
-            model.take(*step, symbols, symbol_of(pool, *step, rest))?;
+            model.take(*step, symbols, symbol_of(pool, *step))?;
         }
     }
     Ok(count)
@@ -153,13 +116,12 @@ fn outcomes_of<S: Symbol>(
     heap: Global,
     pool: &[S],
     steps: &[Step],
-    rest: S,
 ) -> Result<Vec<Outcome<S, Changes, ChangesThenSilence>>, AllocError> {
     let mut calls = Vec::new(heap);
     for step in steps {
-        calls.push(call_of(pool, *step, symbol_of(pool, *step, rest)))?;
+        calls.push(call_of(pool, *step, symbol_of(pool, *step)))?;
     }
-    let memory = copies(heap, rest, TRACKS * CAPACITY)?;
+    let memory = vec![in heap; S::rest(); TRACKS * CAPACITY]?;
     let came = perform::<S, Changes, ChangesThenSilence>(heap, TRACKS, memory, &calls)?;
     let Performance {
         memory: _,
@@ -169,12 +131,12 @@ fn outcomes_of<S: Symbol>(
 }
 
 // Performs a list of calls; tells how many were unlike.
-fn run_list(heap: Global, pool: &[Pitch], steps: &[Step], rest: Pitch) -> Result<u32, AllocError> {
-    let outcomes = outcomes_of(heap, pool, steps, rest)?;
+fn run_list(heap: Global, pool: &[Pitch], steps: &[Step]) -> Result<u32, AllocError> {
+    let outcomes = outcomes_of(heap, pool, steps)?;
     if outcomes.len() != steps.len() {
         return Ok(1);
     }
-    unlike(heap, pool, steps, rest, &outcomes)
+    unlike(heap, pool, steps, &outcomes)
 }
 
 // Symbols at random, a few of them rests.
@@ -197,22 +159,19 @@ fn any_steps(heap: Global, random: &mut Random) -> Result<Vec<Step>, AllocError>
     Ok(steps)
 }
 
-fn run_lists(heap: Global, rest: Pitch) -> Result<u32, AllocError> {
+fn run_lists(heap: Global) -> Result<u32, AllocError> {
     let mut random = Random::new(20_260_301);
     let mut count: u32 = 0;
     for _ in 0..LISTS {
         let pool = any_pool(heap, &mut random)?;
         let steps = any_steps(heap, &mut random)?;
-        count = count.saturating_add(run_list(heap, &pool, &steps, rest)?);
+        count = count.saturating_add(run_list(heap, &pool, &steps)?);
     }
     Ok(count)
 }
 
 fn main(rt: HostRuntime) -> anyhow::Result<()> {
-    let Some(rest) = Pitch::read(255) else {
-        return Err(anyhow!("no rest"));
-    };
-    let count = run_lists(rt.alloc(), rest)?;
+    let count = run_lists(rt.alloc())?;
     let calls = LISTS * CALLS;
     println!(rt; "{LISTS} lists of calls: {calls} calls, {count} unlike")?;
     Ok(())

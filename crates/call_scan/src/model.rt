@@ -32,14 +32,10 @@ fn query_due(query: &[Pitch]) -> Due {
     if query.len() == 0 || query.len() > 64 {
         return Due::Refused(17, query.len());
     }
-    let mut note: usize = 0;
-    for symbol in query {
-        note = note.saturating_add(1);
-        if symbol.write() == 255 {
-            return Due::Refused(18, note);
-        }
+    match query.iter().position(|symbol| *symbol == Pitch::rest()) {
+        Some(before) => Due::Refused(18, before.saturating_add(1)),
+        None => Due::Answer,
     }
-    Due::Answer
 }
 
 fn limit_due(limit: u32) -> Due {
@@ -48,16 +44,6 @@ fn limit_due(limit: u32) -> Due {
     } else {
         Due::Done
     }
-}
-
-// Puts columns last that stand one after another; tells whether each was taken.
-fn append_all(score: &mut Score<Pitch>, symbols: &[Pitch]) -> bool {
-    for column in symbols.chunks(TRACKS) {
-        if score.append(column).is_err() {
-            return false;
-        }
-    }
-    true
 }
 
 impl Model {
@@ -138,9 +124,7 @@ impl Model {
     ) -> Result<(), AllocError> {
         match step.kind {
             Kind::Append => {
-                for s in symbols {
-                    self.symbols.push(*s)?;
-                }
+                self.symbols.extend_from_slice(symbols)?;
             }
             Kind::Correct => self.correct(step, symbol),
             Kind::Cut => self.symbols.truncate(step.column.saturating_mul(TRACKS)),
@@ -166,18 +150,12 @@ impl Model {
     }
 
     // A fresh score of the columns held.
-    pub(super) fn score(
-        &self,
-        heap: Global,
-        rest: Pitch,
-    ) -> Result<Option<Score<Pitch>>, AllocError> {
-        let mut memory = Vec::new(heap);
-        for _ in 0..8 {
-            memory.push(rest)?;
-        }
-        let mut score = Score::new(TRACKS, memory);
-        if !append_all(&mut score, &self.symbols) {
-            return Ok(None);
+    pub(super) fn score(&self, heap: Global) -> Result<Option<Score<Pitch>>, AllocError> {
+        let mut score = Score::new(TRACKS, vec![in heap; Pitch::rest(); 8]?);
+        for column in self.symbols.chunks(TRACKS) {
+            if score.append(column).is_err() {
+                return Ok(None);
+            }
         }
         Ok(Some(score))
     }

@@ -1,8 +1,8 @@
 //! Calls as plain values, made at random.
 
-use super::random::Random;
 use finder::{Call, PriceKind, Room};
 use notation::{Mode, Symbol};
+use prng::Random;
 
 #[derive(Clone, Copy)]
 pub(super) enum Kind {
@@ -83,15 +83,13 @@ pub(super) fn any_step(random: &mut Random, pool: u32) -> Step {
 
 // The symbols that a call takes.
 pub(super) fn part<'a, S: Symbol>(pool: &'a [S], step: Step) -> &'a [S] {
-    match pool.get(step.from..step.from.saturating_add(step.len)) {
-        Some(symbols) => symbols,
-        None => pool,
-    }
+    pool.get(step.from..step.from.saturating_add(step.len))
+        .unwrap_or(pool)
 }
 
 // The symbol that a correction takes.
-pub(super) fn symbol_of<S: Symbol>(pool: &[S], step: Step, rest: S) -> S {
-    pool.get(step.from).copied().unwrap_or(rest)
+pub(super) fn symbol_of<S: Symbol>(pool: &[S], step: Step) -> S {
+    pool.get(step.from).copied().unwrap_or(S::rest())
 }
 
 fn ask<'a, S: Symbol>(query: &'a [S], at: PriceKind) -> Call<'a, S> {

@@ -1,8 +1,8 @@
 //! Small questions made at random.
 
-use super::random::Random;
 use finder::{Limit, Score, Terms};
 use notation::{Mode, Symbol};
+use prng::Random;
 use std::alloc::{AllocError, Global};
 
 /// A question: symbols column after column, track 1 first, and what is asked about them.
@@ -58,13 +58,6 @@ impl<S: Symbol> Case<S> {
         })
     }
 
-    pub(super) fn is_untransposed(&self) -> bool {
-        match self.mode {
-            Mode::Untransposed => true,
-            Mode::AnyTransposition => false,
-        }
-    }
-
     // The note of a number, counted from 1.
     pub(super) fn note(&self, number: usize) -> Option<S> {
         self.query.get(number.checked_sub(1)?).copied()
@@ -90,27 +83,13 @@ impl<S: Symbol> Case<S> {
 
     // The score that is asked, in memory with room for one column more.
     pub(super) fn score(&self, heap: Global) -> Result<Option<Score<S>>, AllocError> {
-        let Some(rest) = S::read(255) else {
-            return Ok(None);
-        };
-        let mut memory = Vec::new(heap);
-        for _ in 0..self.symbols.len().saturating_add(self.tracks) {
-            memory.push(rest)?;
-        }
-        let mut score = Score::new(self.tracks, memory);
-        if !append_all(&mut score, self.tracks, &self.symbols) {
-            return Ok(None);
+        let length = self.symbols.len().saturating_add(self.tracks);
+        let mut score = Score::new(self.tracks, vec![in heap; S::rest(); length]?);
+        for column in self.symbols.chunks(self.tracks.max(1)) {
+            if score.append(column).is_err() {
+                return Ok(None);
+            }
         }
         Ok(Some(score))
     }
-}
-
-// Puts columns last that stand one after another; tells whether each was taken.
-fn append_all<S: Symbol>(score: &mut Score<S>, tracks: usize, symbols: &[S]) -> bool {
-    for column in symbols.chunks(tracks.max(1)) {
-        if score.append(column).is_err() {
-            return false;
-        }
-    }
-    true
 }

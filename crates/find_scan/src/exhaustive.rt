@@ -4,7 +4,7 @@
 //! note, and each digit before it tells of the next note whether it is handed over to, and its place.
 
 use super::case::Case;
-use notation::Symbol;
+use notation::{Mode, Symbol};
 use splitting::Place;
 
 /// A splitting of the first notes of a query: its price, where it begins, where its last note lies,
@@ -16,6 +16,14 @@ pub(super) struct Way {
     pub(super) first: Place,
     pub(super) shift: i32,
     last: Place,
+}
+
+impl Way {
+    // What ways are compared by: price, then column and track of the first note.
+    fn rank(&self, silent: bool) -> (u32, u32, usize, usize) {
+        let silence = if silent { self.silence } else { 0 };
+        (self.changes, silence, self.first.column, self.first.track)
+    }
 }
 
 // The place of a number below the number of places.
@@ -36,7 +44,7 @@ fn shift_at<S: Symbol>(case: &Case<S>, note: usize, place: Place) -> Option<i32>
 // The first note at a place.
 fn begun<S: Symbol>(case: &Case<S>, place: Place) -> Option<Way> {
     let shift = shift_at(case, 1, place)?;
-    if case.is_untransposed() && shift != 0 {
+    if case.mode == Mode::Untransposed && shift != 0 {
         return None;
     }
     Some(Way {
@@ -101,30 +109,12 @@ fn codes<S: Symbol>(case: &Case<S>) -> usize {
     count
 }
 
-// Whether a way costs less than another, or as much and begins earlier.
-fn goes_before(a: Way, b: Way, silent: bool) -> bool {
-    if a.changes != b.changes {
-        return a.changes < b.changes;
-    }
-    if silent && a.silence != b.silence {
-        return a.silence < b.silence;
-    }
-    if a.first.column != b.first.column {
-        return a.first.column < b.first.column;
-    }
-    a.first.track < b.first.track
-}
-
 /// The cheapest way that begins earliest, by changes, and then by silence where that counts.
 pub(super) fn best_way<S: Symbol>(case: &Case<S>, silent: bool) -> Option<Way> {
     let mut best: Option<Way> = None;
     for code in 0..codes(case) {
         if let Some(way) = way_of(case, code) {
-            let better = match best {
-                Some(other) => goes_before(way, other, silent),
-                None => true,
-            };
-            if better {
+            if best.is_none_or(|other| way.rank(silent) < other.rank(silent)) {
                 best = Some(way);
             }
         }

@@ -4,17 +4,16 @@
 mod case;
 mod counted;
 mod exhaustive;
-mod random;
 mod tally;
 mod told;
 
 use case::Case;
 use counted::Counted;
 use exhaustive::{Way, best_way, most_matches};
-use finder::{Score, Terms};
+use finder::{Room, Score, Terms};
 use notation::{Mode, Pitch, PitchClass, Stroke, Symbol};
 use price::{Changes, ChangesThenSilence, Entry, Price};
-use random::Random;
+use prng::Random;
 use search::QuestionFault;
 use splitting::{Answer, Piece};
 use std::alloc::{AllocError, Global};
@@ -26,14 +25,6 @@ const QUESTIONS: usize = 800;
 // How many codes are drawn from, all of them near each other.
 const CODES: usize = 4;
 
-/// The lengths of the three sheets that are lent.
-#[derive(Clone, Copy)]
-struct Sheets {
-    prices: usize,
-    window: usize,
-    steps: usize,
-}
-
 /// What a question was told or refused by, and the list that it was lent.
 #[derive(Drop)]
 struct Asked<P> {
@@ -41,42 +32,23 @@ struct Asked<P> {
     list: Vec<Piece>,
 }
 
-// So many copies of one value.
-fn copies<T: Copy>(heap: Global, x: T, count: usize) -> Result<Vec<T>, AllocError> {
-    let mut all = Vec::new(heap);
-    for _ in 0..count {
-        all.push(x)?;
-    }
-    Ok(all)
-}
-
-// A list of marks.
-fn marks(heap: Global, count: usize) -> Result<Vec<Piece>, AllocError> {
-    let mut list = Vec::new(heap);
-    for at in 0..count {
-        list.push(mark(at))?;
-    }
-    Ok(list)
-}
-
-// Asks with a list of so many marks.
+// Asks with a list of marks and with sheets of these lengths.
 fn ask<S: Symbol, P: Counted>(
     heap: Global,
     score: &Score<S>,
     terms: &Terms,
     query: &[S],
-    room: usize,
-    sheets: Sheets,
+    room: Room,
 ) -> Result<Asked<P>, AllocError> {
     let nowhere = Entry {
         position: 0,
         place: 0,
         price: P::empty(),
     };
-    let mut list = marks(heap, room)?;
-    let mut prices = copies(heap, Option::<P>::None, sheets.prices)?;
-    let mut window = copies(heap, nowhere, sheets.window)?;
-    let mut steps = copies(heap, 0u32, sheets.steps)?;
+    let mut list: Vec<Piece> = (0..room.list).map(mark).collect(heap)?;
+    let mut prices = vec![in heap; Option::<P>::None; room.prices]?;
+    let mut window = vec![in heap; nowhere; room.window]?;
+    let mut steps = vec![in heap; 0u32; room.steps]?;
     let answer = score.find(
         terms,
         query,
@@ -88,13 +60,21 @@ fn ask<S: Symbol, P: Counted>(
     Ok(Asked { answer, list })
 }
 
-// Sheets of the workspace size, and of those one that is one shorter.
-fn short_sheets(size: usize, which: usize) -> Sheets {
-    let short = size.saturating_sub(1);
-    Sheets {
-        prices: if which % 3 == 0 { short } else { size },
-        window: if which % 3 == 1 { short } else { size },
-        steps: if which % 3 == 2 { short } else { size },
+// Sheets as long as those, but for one that is one shorter.
+fn one_shorter(enough: Room, which: usize) -> Room {
+    match which % 3 {
+        0 => Room {
+            prices: enough.prices.saturating_sub(1),
+            ..enough
+        },
+        1 => Room {
+            window: enough.window.saturating_sub(1),
+            ..enough
+        },
+        _ => Room {
+            steps: enough.steps.saturating_sub(1),
+            ..enough
+        },
     }
 }
 
@@ -102,10 +82,7 @@ fn short_sheets(size: usize, which: usize) -> Sheets {
 fn is_turned_away<P>(asked: &Asked<P>, size: usize) -> bool {
     match &asked.answer {
         Ok(_) => false,
-        Err(fault) => {
-            let told = fault.refusal();
-            told.number == 20 && told.place == size as u64 && is_marked(&asked.list, 0)
-        }
+        Err(fault) => { *fault == QuestionFault::ShortSheet { size } && is_marked(&asked.list, 0) }
     }
 }
 
@@ -126,18 +103,18 @@ fn agrees<S: Symbol, P: Counted>(
     if score.workspace_size(&terms, &case.query).ok() != Some(size) {
         return Ok(false);
     }
-    let room = case.query.len().saturating_add(number % 3);
-    let short = short_sheets(size, number);
-    let refused = ask::<S, P>(heap, &score, &terms, &case.query, room, short)?;
-    if size > 0 && !is_turned_away(&refused, size) {
-        return Ok(false);
-    }
-    let enough = Sheets {
+    let enough = Room {
+        list: case.query.len().saturating_add(number % 3),
         prices: size,
         window: size,
         steps: size,
     };
-    let Asked { answer, list } = ask::<S, P>(heap, &score, &terms, &case.query, room, enough)?;
+    let short = one_shorter(enough, number);
+    let refused = ask::<S, P>(heap, &score, &terms, &case.query, short)?;
+    if size > 0 && !is_turned_away(&refused, size) {
+        return Ok(false);
+    }
+    let Asked { answer, list } = ask::<S, P>(heap, &score, &terms, &case.query, enough)?;
     match answer {
         Ok(told) => Ok(is_right(case, best, told, &list)),
         Err(_) => Ok(false),
@@ -153,7 +130,7 @@ fn compare<S: Symbol, P: Counted>(
     let limits = [0, 1, 2, 4_095];
     let modes = [Mode::Untransposed, Mode::AnyTransposition];
     let mut random = Random::new(seed);
-    let mut tally = Tally::new();
+    let mut tally = Tally::default();
     for number in 0..QUESTIONS {
         let limit = limits[number % 4];
         let mode = modes[number / 4 % 2];

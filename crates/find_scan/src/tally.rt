@@ -2,7 +2,7 @@
 
 use std::fmt;
 
-#[derive(Drop)]
+#[derive(Default, Drop)]
 pub(super) struct Tally {
     none: u32,
     found: u32,
@@ -10,14 +10,6 @@ pub(super) struct Tally {
 }
 
 impl Tally {
-    pub(super) fn new() -> Tally {
-        Tally {
-            none: 0,
-            found: 0,
-            unlike: 0,
-        }
-    }
-
     // Counts a question with a way or with none, and whether its answer was right.
     pub(super) fn count(&mut self, has_way: bool, right: bool) {
         if has_way {

@@ -4,7 +4,7 @@ use super::case::Case;
 use super::counted::Counted;
 use super::exhaustive::Way;
 use notation::Symbol;
-use splitting::{Answer, Found, Piece};
+use splitting::{Answer, Found, Piece, Place};
 
 // What is in the list at a place before a question is asked.
 pub(super) fn mark(at: usize) -> Piece {
@@ -18,16 +18,10 @@ pub(super) fn mark(at: usize) -> Piece {
 
 // Whether the list is as it was from a place on.
 pub(super) fn is_marked(list: &[Piece], from: usize) -> bool {
-    for at in from..list.len() {
-        if let Some(piece) = list.get(at) {
-            let due = mark(at);
-            let numbers = piece.first == due.first && piece.len == due.len;
-            if !numbers || piece.track != due.track || piece.column != due.column {
-                return false;
-            }
-        }
-    }
-    true
+    list.iter()
+        .enumerate()
+        .skip(from)
+        .all(|(at, piece)| *piece == mark(at))
 }
 
 // Whether each note of a piece matches under a shift.
@@ -93,16 +87,17 @@ fn is_split<S: Symbol, P: Counted>(case: &Case<S>, found: Found<P>, list: &[Piec
     let Some(cost) = cost_of(case, pieces, found.shift) else {
         return false;
     };
-    found.price.is(cost.changes, cost.silence)
-        && first.column == found.place.column
-        && first.track == found.place.track
+    let place = Place {
+        column: first.column,
+        track: first.track,
+    };
+    found.price.is(cost.changes, cost.silence) && place == found.place
 }
 
 // Whether price, first place and shift are those of the best way.
 fn is_best<P: Counted>(found: Found<P>, best: Way) -> bool {
     found.price.is(best.changes, best.silence)
-        && found.place.column == best.first.column
-        && found.place.track == best.first.track
+        && found.place == best.first
         && found.shift == best.shift
 }
 

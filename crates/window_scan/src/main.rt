@@ -2,16 +2,15 @@
 #![tactic(auto)]
 
 mod model;
-mod random;
 mod tally;
 
 use model::Model;
-use price::{Changes, ChangesThenSilence, Entry, Price, Window};
-use random::Random;
+use price::{Changes, ChangesThenSilence, Entry, Passed, Price, Window};
+use prng::Random;
 use std::alloc::{AllocError, Global};
 use tally::{Outcome, Tally};
 
-const CASES: u32 = 3_000;
+const CASES: usize = 3_000;
 
 // How many calls a case makes, and so how many entries it can put in.
 const CALLS: u32 = 24;
@@ -35,7 +34,7 @@ fn any_price<P: Price>(random: &mut Random) -> P {
 }
 
 // Puts an entry in, or tries to, and compares whether it was taken.
-fn put_one<P: Price>(
+fn put_one<P: Price + PartialEq>(
     window: &mut Window<P>,
     model: &mut Model<P>,
     from: u32,
@@ -50,24 +49,26 @@ fn put_one<P: Price>(
         }
         Err(back) => {
             let owed = !may || model.is_full();
-            tally.count(Outcome::Returned, owed && back.place == entry.place);
+            tally.count(Outcome::Returned, owed && back == entry);
         }
     }
     Ok(())
 }
 
 // Asks for the cheapest entry, and compares it with what a scan finds.
-fn ask_one<P: Price>(window: &mut Window<P>, model: &mut Model<P>, from: u32, tally: &mut Tally) {
-    let passed = model.has_passed(from);
-    let Ok(told) = window.least(from) else {
-        tally.count(Outcome::Passed, passed);
-        return;
+fn ask_one<P: Price + PartialEq>(
+    window: &mut Window<P>,
+    model: &mut Model<P>,
+    from: u32,
+    tally: &mut Tally,
+) {
+    let told = window.least(from);
+    let outcome = match told {
+        Ok(Some(_)) => Outcome::Told,
+        Ok(None) => Outcome::Absent,
+        Err(Passed) => Outcome::Passed,
     };
-    match (told, model.least(from)) {
-        (Some(a), Some(b)) => tally.count(Outcome::Told, !passed && a.place == b.place),
-        (None, None) => tally.count(Outcome::Absent, !passed),
-        _ => tally.count(Outcome::Absent, false),
-    }
+    tally.count(outcome, told == model.least(from));
 }
 
 // Memory for so many entries.
@@ -77,15 +78,11 @@ fn memory_for<P: Price>(heap: Global, room: u32) -> Result<Vec<Entry<P>>, AllocE
         place: 0,
         price: P::empty(),
     };
-    let mut memory = Vec::new(heap);
-    for _ in 0..room {
-        memory.push(blank)?;
-    }
-    Ok(memory)
+    vec![in heap; blank; room as usize]
 }
 
 // One case: calls at random, from late positions to early ones, now and then a step back.
-fn run_case<P: Price>(
+fn run_case<P: Price + PartialEq>(
     heap: Global,
     random: &mut Random,
     setting: Setting,
@@ -112,17 +109,17 @@ fn run_case<P: Price>(
     Ok(())
 }
 
-fn run_cases<P: Price>(heap: Global, seed: u64) -> Result<Tally, AllocError> {
+fn run_cases<P: Price + PartialEq>(heap: Global, seed: u64) -> Result<Tally, AllocError> {
     let limits = [0, 1, 7, 4_094, u32::MAX];
     let strides = [1, 2, 40];
     let rooms = [CALLS, CALLS, CALLS, 3];
     let mut random = Random::new(seed);
-    let mut tally = Tally::new();
+    let mut tally = Tally::default();
     for case in 0..CASES {
         let setting = Setting {
-            limit: limits[case as usize % 5],
-            stride: strides[case as usize % 3],
-            room: rooms[case as usize % 4],
+            limit: limits[case % limits.len()],
+            stride: strides[case % strides.len()],
+            room: rooms[case % rooms.len()],
         };
         run_case::<P>(heap, &mut random, setting, &mut tally)?;
         tally.count_case();

@@ -1,6 +1,6 @@
 //! What the window has to answer, found by looking at every entry put in.
 
-use price::{Entry, Price};
+use price::{Entry, Passed, Price};
 use std::alloc::{AllocError, Global};
 
 /// All entries put in, the first one first, the position reached, the limit, and the room.
@@ -21,38 +21,20 @@ fn cost<P: Price>(from: u32, entry: Entry<P>) -> P {
 }
 
 // The cheaper of two, the later one of equals.
-fn cheaper<P: Price>(from: u32, best: Option<Entry<P>>, later: Entry<P>) -> Entry<P> {
-    match best {
-        Some(earlier) => {
-            if cost(from, later).not_above(cost(from, earlier)) {
-                later
-            } else {
-                earlier
-            }
-        }
-        None => later,
+fn cheaper<P: Price>(from: u32, earlier: Entry<P>, later: Entry<P>) -> Entry<P> {
+    if cost(from, later).not_above(cost(from, earlier)) {
+        later
+    } else {
+        earlier
     }
 }
 
 // The cheapest entry within the limit.
 fn scan<P: Price>(puts: &[Entry<P>], from: u32, limit: u32) -> Option<Entry<P>> {
-    let mut best = None;
-    for e in puts {
-        if e.position > from && gap(from, e.position) <= limit {
-            best = Some(cheaper(from, best, *e));
-        }
-    }
-    best
-}
-
-// Whether no entry lies nearer than `position`.
-fn nearest<P: Price>(puts: &[Entry<P>], position: u32) -> bool {
-    for e in puts {
-        if e.position < position {
-            return false;
-        }
-    }
-    true
+    puts.iter()
+        .copied()
+        .filter(|e| e.position > from && gap(from, e.position) <= limit)
+        .reduce(|earlier, later| cheaper(from, earlier, later))
 }
 
 impl<P: Price> Model<P> {
@@ -65,12 +47,11 @@ impl<P: Price> Model<P> {
         }
     }
 
-    pub(super) fn has_passed(&self, from: u32) -> bool {
-        from > self.position
-    }
-
+    // Whether `entry` may be put in from `from`: no entry lies nearer.
     pub(super) fn may_put(&self, from: u32, entry: Entry<P>) -> bool {
-        from <= self.position && from < entry.position && nearest(&self.puts, entry.position)
+        from <= self.position
+            && from < entry.position
+            && self.puts.iter().all(|e| e.position >= entry.position)
     }
 
     // Whether as many entries were put in as there is room for, so that one may be returned.
@@ -84,8 +65,11 @@ impl<P: Price> Model<P> {
         Ok(())
     }
 
-    pub(super) fn least(&mut self, from: u32) -> Option<Entry<P>> {
+    pub(super) fn least(&mut self, from: u32) -> Result<Option<Entry<P>>, Passed> {
+        if from > self.position {
+            return Err(Passed);
+        }
         self.position = from;
-        scan(&self.puts, from, self.limit)
+        Ok(scan(&self.puts, from, self.limit))
     }
 }

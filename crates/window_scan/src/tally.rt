@@ -12,7 +12,7 @@ pub(super) enum Outcome {
     Passed,
 }
 
-#[derive(Drop)]
+#[derive(Default, Drop)]
 pub(super) struct Tally {
     cases: u32,
     puts: u32,
@@ -24,30 +24,19 @@ pub(super) struct Tally {
 }
 
 impl Tally {
-    pub(super) fn new() -> Tally {
-        Tally {
-            cases: 0,
-            puts: 0,
-            returned: 0,
-            told: 0,
-            absent: 0,
-            passed: 0,
-            disagreed: 0,
-        }
-    }
-
     pub(super) fn count_case(&mut self) {
         self.cases = self.cases.saturating_add(1);
     }
 
     pub(super) fn count(&mut self, outcome: Outcome, agreed: bool) {
-        match outcome {
-            Outcome::Put => self.puts = self.puts.saturating_add(1),
-            Outcome::Returned => self.returned = self.returned.saturating_add(1),
-            Outcome::Told => self.told = self.told.saturating_add(1),
-            Outcome::Absent => self.absent = self.absent.saturating_add(1),
-            Outcome::Passed => self.passed = self.passed.saturating_add(1),
-        }
+        let times = match outcome {
+            Outcome::Put => &mut self.puts,
+            Outcome::Returned => &mut self.returned,
+            Outcome::Told => &mut self.told,
+            Outcome::Absent => &mut self.absent,
+            Outcome::Passed => &mut self.passed,
+        };
+        *times = times.saturating_add(1);
         if !agreed {
             self.disagreed = self.disagreed.saturating_add(1);
         }
@@ -56,22 +45,13 @@ impl Tally {
 
 impl fmt::Display for Tally {
     fn fmt<W: fmt::Write>(&self, f: &mut fmt::Formatter<W>) -> fmt::Result {
-        let cases = self.cases;
-        let puts = self.puts;
-        let returned = self.returned;
-        write!(
-            f,
-            "{cases} cases, {puts} entries put in, {returned} returned, "
-        )?;
-        let told = self.told;
-        let absent = self.absent;
-        let passed = self.passed;
-        write!(f, "{told} told, {absent} absent, {passed} passed, ")?;
+        write!(f, "{} cases, {} entries put in, ", self.cases, self.puts)?;
+        write!(f, "{} returned, {} told, ", self.returned, self.told)?;
+        write!(f, "{} absent, {} passed, ", self.absent, self.passed)?;
         if self.disagreed == 0 {
             write!(f, "all agreed")
         } else {
-            let disagreed = self.disagreed;
-            write!(f, "{disagreed} disagreed")
+            write!(f, "{} disagreed", self.disagreed)
         }
     }
 }
