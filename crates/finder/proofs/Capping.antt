@@ -6,7 +6,7 @@ use Rattle.std.proofs.lemmas.List.Sums.{count_by-le-length}
 use Rattle.std.proofs.ByRecursion.{sum_by_le}
 use Rattle.std.proofs.lemmas.Bool.{le-leb, leb-true, cond_both}
 use Rattle.notation.specs.Kind.{Kind}
-use Rattle.notation.specs.declared.Mode.{Mode}
+use Rattle.notation.specs.declared.mode.Mode.{Mode}
 use Rattle.book.specs.Refusals.{refusal, unless, then}
 use Rattle.book.specs.declared.refusal.Layer.TheVariants.{Question as of-question, Transposing}
 use Rattle.book.specs.declared.refusal.Refusal.{Refusal}

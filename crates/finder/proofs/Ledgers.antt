@@ -3,8 +3,8 @@ use Rattle.std.proofs.Common.{◌≡◌, ℕ, suc, ◌-◌, ◌/◌, ◌<◌, �
 use Rattle.std.proofs.lemmas.Bool.{cond-true, cond-false}
 use Rattle.std.proofs.lemmas.List.{map-append, reverse-append, length-reverse, length-map, get_or-reverse, length-drop}
 use Rattle.notation.specs.Kind.{Kind}
-use Rattle.notation.specs.declared.Mode.{Mode}
-use Rattle.notation.specs.declared.Mode.TheVariants.{Untransposed}
+use Rattle.notation.specs.declared.mode.Mode.{Mode}
+use Rattle.notation.specs.declared.mode.Mode.TheVariants.{Untransposed}
 use Rattle.book.specs.declared.refusal.Refusal.{Refusal}
 use Rattle.splitting.specs.Score as splitting
 use Rattle.search.specs.Columns.{columns_of}

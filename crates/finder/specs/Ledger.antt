@@ -1,8 +1,8 @@
 -- The ledger: what a score and its terms are after some calls, by the calls' arguments alone.
 use Rattle.std.specs.Prelude.{ℕ, ◌/◌, Bool, true, false, cond, not, List, [], ◌∷◌, map, length, take, ℤ, Some, None, fold, Option}
 use Rattle.notation.specs.Kind.{Kind}
-use Rattle.notation.specs.declared.Mode.{Mode}
-use Rattle.notation.specs.declared.Mode.TheVariants.{Untransposed}
+use Rattle.notation.specs.declared.mode.Mode.{Mode}
+use Rattle.notation.specs.declared.mode.Mode.TheVariants.{Untransposed}
 use Rattle.book.specs.declared.refusal.Refusal.{Refusal}
 use Rattle.splitting.specs.Score.{Score, Column, Question}
 use Rattle.finder.specs.Edits.{appended, corrected, first_columns, book_columns}

@@ -1,7 +1,7 @@
 -- What a list of calls promises, whatever it holds.
 use Rattle.std.specs.Prelude.{◌≡◌, ℕ, ◌<◌, ◌≤◌, List, [], ◌++◌, length, ℤ, Some, None, vec_items, vec_len, Option, slice_index_or}
 use Rattle.notation.specs.Kind.{Kind}
-use Rattle.notation.specs.declared.Mode.TheVariants.{AnyTransposition}
+use Rattle.notation.specs.declared.mode.Mode.TheVariants.{AnyTransposition}
 use Rattle.price.specs.Pricing.{Pricing}
 use Rattle.splitting.specs.Answer.{meant}
 use Rattle.splitting.specs.AnswerLaws.{NoDearer, Moved}

@@ -1,7 +1,7 @@
 -- How a score, its terms and the limits on trial keep the ledger, and what it is to try one call.
 use Rattle.std.specs.Prelude.{◌≡◌, ℕ, List, ◌∷◌, map, reverse, drop, Some, None, Ok, Err, Result, MatchResult, slice_index}
 use Rattle.notation.specs.Kind.{Kind}
-use Rattle.notation.specs.declared.Mode.{Mode}
+use Rattle.notation.specs.declared.mode.Mode.{Mode}
 use Rattle.price.specs.Pricing.{Pricing}
 use Rattle.book.specs.declared.refusal.Refusal.{Refusal}
 use Rattle.splitting.specs.Score.{Question}

@@ -1,7 +1,7 @@
 //! The terms of a search.
 
 ghost use Rattle.std.specs.Prelude.{◌≡◌};
-ghost use Rattle.notation.specs.declared.Mode.TheVariants.{Untransposed};
+ghost use Rattle.notation.specs.declared.mode.Mode.TheVariants.{Untransposed};
 
 use super::limit::Limit;
 use notation::Mode;

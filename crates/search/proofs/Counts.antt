@@ -5,7 +5,7 @@ use Rattle.std.proofs.lemmas.List.{length-map, length-set, length-take-le, get_o
 use Rattle.std.proofs.lemmas.List.Sums.{sum_by-cons, count_by_more_yes, count_by_more_no, count_by-le-length}
 use Rattle.std.proofs.lemmas.Bool.{cases_eq, eq-eqb, ne_eqb, lt-ltb, ltb-true, eqb-true, cond-true, cond-false}
 use Rattle.notation.specs.Kind.{Kind, rest, readable, Lawful}
-use Rattle.notation.specs.declared.Mode.{Mode}
+use Rattle.notation.specs.declared.mode.Mode.{Mode}
 use Rattle.splitting.specs.Score.{note}
 use Rattle.splitting.proofs.Kept.{one_symbol}
 use Rattle.search.specs.Queries.{tells}

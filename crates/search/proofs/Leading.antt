@@ -4,8 +4,8 @@ use Rattle.std.specs.Option.{option_map}
 use Rattle.std.proofs.lemmas.List.Sums.{sum_by-cons, get_or-le-sum_by}
 use Rattle.std.proofs.lemmas.Bool.{cases_lt, cases_eq, eq-eqb, cond-true}
 use Rattle.notation.specs.Kind.{Kind, rest, Lawful}
-use Rattle.notation.specs.declared.Mode.{Mode}
-use Rattle.notation.specs.declared.Mode.TheVariants.{Untransposed, AnyTransposition}
+use Rattle.notation.specs.declared.mode.Mode.{Mode}
+use Rattle.notation.specs.declared.mode.Mode.TheVariants.{Untransposed, AnyTransposition}
 use Rattle.price.specs.Pricing.{Pricing, Lawful as PriceLaws}
 use Rattle.splitting.specs.Score.{Question, Admits, Matches, symbol, note}
 use Rattle.splitting.specs.Rest.{Rest, ends, goes_on, handed_over, Begins, begins, Least}

@@ -1,7 +1,7 @@
 -- The answer, from the best rest that is settled on and the pieces that are written.
 use Rattle.std.proofs.Common.{◌≡◌, ℕ, ◌<◌, ◌≤◌, T, eqb, List, ◌++◌, length, get_or, drop, None, sum_by, count_by, Option, sym, ap, ◌∙◌, subst, arith}
 use Rattle.notation.specs.Kind.{Kind, rest, Lawful as KindLaws}
-use Rattle.notation.specs.declared.Mode.{Mode}
+use Rattle.notation.specs.declared.mode.Mode.{Mode}
 use Rattle.price.specs.Pricing.{Pricing, Lawful as PriceLaws}
 use Rattle.splitting.specs.Score.{Question, Admits, note}
 use Rattle.splitting.specs.Splitting.{price_of}

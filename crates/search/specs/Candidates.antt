@@ -1,7 +1,7 @@
 -- The best rest of a query over candidate transpositions, which lead from the first note to a byte.
 use Rattle.std.specs.Prelude.{◌≡◌, ℕ, ◌<◌, ◌≤◌, Bool, true, false, T, List, map, length, ℤ, Some, None, Option, slice_index}
 use Rattle.notation.specs.Kind.{Kind}
-use Rattle.notation.specs.declared.Mode.{Mode}
+use Rattle.notation.specs.declared.mode.Mode.{Mode}
 use Rattle.price.specs.Pricing.{Pricing}
 use Rattle.splitting.specs.Score.{Question, Admits, note}
 use Rattle.splitting.specs.Rest.{Rest, Begins}

@@ -1,7 +1,7 @@
 -- What is asked of the symbols of a score, which questions are refused, and what is answered.
 use Rattle.std.specs.Prelude.{◌≡◌, ℕ, ◌≤◌, ◌&&◌, List, map, length, Some, None, Option, Result, MatchResult, nat_le}
 use Rattle.notation.specs.Kind.{Kind}
-use Rattle.notation.specs.declared.Mode.{Mode}
+use Rattle.notation.specs.declared.mode.Mode.{Mode}
 use Rattle.book.specs.Refusals.{refusal, unless, then}
 use Rattle.book.specs.declared.refusal.Layer.TheVariants.{Question as of-question}
 use Rattle.book.specs.declared.refusal.Refusal.{Refusal}

@@ -2,8 +2,8 @@
 use Rattle.std.specs.Prelude.{◌≡◌, ℕ, ◌<◌, max, Bool, true, cond, List, [], ◌∷◌, ℤ, pos, Some, None, sum_by, count_by, Option, nat_eq, slice_index}
 use Rattle.std.specs.List.{flat_map}
 use Rattle.notation.specs.Kind.{Kind}
-use Rattle.notation.specs.declared.Mode.{Mode}
-use Rattle.notation.specs.declared.Mode.TheVariants.{Untransposed, AnyTransposition}
+use Rattle.notation.specs.declared.mode.Mode.{Mode}
+use Rattle.notation.specs.declared.mode.Mode.TheVariants.{Untransposed, AnyTransposition}
 use Rattle.splitting.specs.Score.{Score, Question, note}
 use Rattle.search.specs.Queries.{same_interval, tells}
 

@@ -10,7 +10,7 @@ ghost use Rattle.search.specs.declared.fault.TransposeFault.TheVariants.{OfList 
 use book::{Layer, Refusal};
 
 /// Why a query is refused.
-#[derive(Clone, Copy)]
+#[derive(Clone, Copy, Debug, PartialEq, Eq)]
 pub enum QueryFault {
     /// It has no notes, or more than 64.
     Length { notes: usize },
@@ -35,7 +35,7 @@ impl QueryFault {
 }
 
 /// Why a query is refused together with the list that is to take up to one entry for each note.
-#[derive(Clone, Copy)]
+#[derive(Clone, Copy, Debug, PartialEq, Eq)]
 pub enum ListFault {
     /// The query is refused by itself.
     OfQuery(QueryFault),
@@ -67,7 +67,7 @@ impl ListFault {
 }
 
 /// Why a question is refused.
-#[derive(Clone, Copy)]
+#[derive(Clone, Copy, Debug, PartialEq, Eq)]
 pub enum QuestionFault {
     /// The query or the list is refused.
     OfList(ListFault),
@@ -99,7 +99,7 @@ impl QuestionFault {
 }
 
 /// Why a query is not transposed.
-#[derive(Clone, Copy)]
+#[derive(Clone, Copy, Debug, PartialEq, Eq)]
 pub enum TransposeFault {
     /// The query or the list is refused.
     OfList(ListFault),

@@ -2,7 +2,7 @@ use Rattle.std.proofs.Common.{◌≡◌, ℕ, ◌<◌, ◌≤◌, true, cond, eq
 use Rattle.std.proofs.lemmas.Int.{to_z-of_z}
 use Rattle.std.proofs.lemmas.Bool.{lt-ltb, cond-true, cond-false}
 use Rattle.notation.specs.Kind.{Kind, rest}
-use Rattle.notation.specs.declared.Mode.{Mode}
+use Rattle.notation.specs.declared.mode.Mode.{Mode}
 use Rattle.splitting.specs.Score.{note}
 use Rattle.search.specs.Workspace.{admits, triples, Counted}
 use Rattle.search.proofs.Counts.{sized, size_none, size_some, no_interval}
