@@ -1,8 +1,8 @@
 -- Counting symbols by their bytes.
-use Rattle.std.proofs.Common.{◌≡◌, ℕ, zero, suc, ◌+◌, ◌<◌, ◌≤◌, max, Bool, true, false, cond, ◌||◌, T, eqb, ltb, List, [], ◌∷◌, map, length, get_or, take, set, replicate, ℤ, Some, None, count_by, Option, sym, refl, ap, ◌∙◌, subst, inl, inr, arith}
+use Rattle.std.proofs.Common.{◌≡◌, ℕ, zero, suc, ◌+◌, ◌<◌, ◌≤◌, max, Bool, true, false, cond, ◌||◌, T, eqb, ltb, List, [], ◌∷◌, map, length, get_or, take, set, replicate, ℤ, Some, count_by, Option, sym, refl, ap, ◌∙◌, subst, inl, inr, arith}
 use Rattle.std.specs.List.{AllByRecursion}
-use Rattle.std.proofs.lemmas.List.{length-map, length-set, length-take-le, get_or-replicate, get_or-set_same, get_or-set_other, take-map}
-use Rattle.std.proofs.lemmas.List.Sums.{sum_by-cons, count_by_more_yes, count_by_more_no, count_by-le-length}
+use Rattle.std.proofs.lemmas.List.{length-map, length-set, get_or-replicate, get_or-set_same, get_or-set_other, take-map}
+use Rattle.std.proofs.lemmas.List.Sums.{sum_by-cons, count_by_more_yes, count_by_more_no}
 use Rattle.std.proofs.lemmas.Bool.{cases_eq, eq-eqb, ne_eqb, lt-ltb, ltb-true, eqb-true, cond-true, cond-false}
 use Rattle.notation.specs.Kind.{Kind, rest, readable, Lawful}
 use Rattle.notation.specs.declared.mode.Mode.{Mode}
@@ -62,9 +62,6 @@ module _ {S : Type 0} (byte : S → ℕ) (cells : List S) where
 
   pub counts_none : Counts (replicate 256 0) 0
   counts_none = (refl, λ b l. get_or-replicate 256 b 0 0 l)
-
-  pub counts_few : (counts : List ℕ) (i b : ℕ) → Counts counts i → b < 256 → i ≤ length cells → get_or counts b 0 ≤ i
-  counts_few counts i b h l m = let e = h.1 b l in omega (arith, count_by-le-length (eqb b) (map byte (take i cells)), length-map (take i cells) byte, length-take-le i cells m)
 
   pub counts_more : (counts : List ℕ) (i b : ℕ) (x : S) → i < length cells → x ≡ get_or cells i x → b ≡ byte x → b < 256 → Counts counts i → Counts (set counts b (get_or counts b 0 + 1)) (i + 1)
   counts_more counts i b x l is e small h =
@@ -155,10 +152,6 @@ bytes_small byte k laws h (x ∷ cells) = (byte_small k laws (byte x) (h x), byt
 
 -- the size under the candidate that leads to a byte
 module _ (k : Kind) (mode : Mode) (cells query : List ℕ) where
-  pub size_none : (v : Bool) (o : Option ℤ) → o ≡ None → 0 ≡ cond v (candidate_size k mode cells query o) 0
-  size_none true o e = sym (ap (candidate_size k mode cells query) e)
-  size_none false o e = refl
-
   pub size_some : (v : Bool) (o : Option ℤ) (c : ℤ) (n : ℕ) → v ≡ true → o ≡ Some c → n ≡ cond (admits mode c) (triples k c cells query) 0 → n ≡ cond v (candidate_size k mode cells query o) 0
   size_some true o c n q e is = is ∙ sym (ap (candidate_size k mode cells query) e)
   size_some false o c n q e is = let z : ◌≡◌ {A = ℕ} 0 1 = cc in absurd (omega arith)
@@ -170,15 +163,3 @@ sized k mode cells query b = cond (ltb 0 (count_by (eqb b) cells)) (candidate_si
 pub workspace_top : (k : Kind) (mode : Mode) (cells query : List ℕ) → AllByRecursion (λ b. b < 256) cells → top (sized k mode cells query) 256 ≡ workspace k mode cells query
 unfolding workspace
 workspace_top k mode cells query small = greatest_top (λ b. candidate_size k mode cells query (k.interval (note query 1) b)) cells small
-
-T_or : (x y : Bool) → T x → T (x || y)
-T_or true y h = tt
-T_or false y h = absurd h
-
--- there is no interval to a byte that is not read
-pub no_interval : (k : Kind) → Lawful k → (a b : ℕ) → (T (readable k b) → ⊥) → k.interval a b ≡ None
-no_interval k laws a b never = go (k.interval a b) refl
-  where
-    go : (o : Option ℤ) → k.interval a b ≡ o → o ≡ None
-    go None e = refl
-    go (Some c) e = absurd (never (T_or (k.code b) (eqb b rest) (laws.present a b c e).1))

@@ -14,7 +14,7 @@ use Rattle.splitting.specs.declared.Place.{Place}
 use Rattle.splitting.proofs.Depths.{rest_matches, depth_63}
 use Rattle.splitting.proofs.Kept.{one_symbol}
 use Rattle.search.specs.Columns.{columns_of}
-use Rattle.search.specs.Workspace.{admits, matching, triples, candidate_size, workspace, Counted}
+use Rattle.search.specs.Workspace.{admits, matching, triples, candidate_size, workspace}
 use Rattle.search.specs.Resting.{Posed, Wanted, RowsRight, offset_of, row_of}
 use Rattle.search.specs.Rows.{column_of, track_of, value}
 use Rattle.search.specs.Topmost.{BestRest, BestUnder}
@@ -67,13 +67,13 @@ same_sum f g (x ∷ xs) (y ∷ ys) e h =
     omega (arith, sum_by-cons f x xs, sum_by-cons g y ys)
 
 -- what the notes want under a candidate has room in the workspace
-module _ (k : Kind) (laws : Lawful k) (mode : Mode) (counts bytes query want : List ℕ) (b : ℕ) (by : ℤ) (small : b < 256) (counted : Counted counts bytes) (as_long : length want ≡ length query) (candidate : Candidate k mode counts (note query 1) b by) where
+module _ (k : Kind) (laws : Lawful k) (mode : Mode) (bytes query want : List ℕ) (b : ℕ) (by : ℤ) (as_long : length want ≡ length query) (candidate : Candidate k mode bytes (note query 1) b by) where
   pub room : ((i : ℕ) → i < length query → k.interval (get_or query i rest) (get_or want i 0) ≡ Some by) → sum_by (λ d. count_by (eqb d) bytes) want ≤ workspace k mode bytes query
   unfolding workspace
   room each =
       let sum = same_sum (λ d. count_by (eqb d) bytes) (matching k by bytes) want query as_long (λ i l. sym (matching_byte k laws by (get_or query i rest) (get_or want i 0) (each i (omega arith)) bytes)) in
       let size : ℕ → ℕ = λ d. candidate_size k mode bytes query (k.interval (note query 1) d) in
-      let le = counted_le size b bytes (omega (arith, counted b small, candidate.held)) in
+      let le = counted_le size b bytes candidate.held in
       let is : size b ≡ triples k by bytes query = ap (candidate_size k mode bytes query) candidate.leads ∙ cond-true (admits mode by) (triples k by bytes query) 0 (tested mode by candidate.admitted) in
       omega arith
 
@@ -124,24 +124,24 @@ module _ (ask : Question) (bytes : List ℕ) (tracks : ℕ) (one : 1 ≤ tracks)
         }
 
 -- what is told of one candidate, the one that leads to the byte b
-module _ (bytes query counts : List ℕ) (kind : Kind) (mode : Mode) (limit tracks b : ℕ) (one : 1 ≤ tracks) (small : b < 256) (counted : Counted counts bytes) {P : Type 0} (m : Pricing) (meaning : P → m.Meaning) (ask : Question) (asked : Asked ask bytes tracks kind mode limit query) where
+module _ (bytes query : List ℕ) (kind : Kind) (mode : Mode) (limit tracks b : ℕ) (one : 1 ≤ tracks) {P : Type 0} (m : Pricing) (meaning : P → m.Meaning) (ask : Question) (asked : Asked ask bytes tracks kind mode limit query) where
   intervals : (i x : ℕ) → ask.kind.interval (note ask.query i) x ≡ kind.interval (note query i) x
   intervals i x = λ z. (asked.kind_is z).interval (note (asked.query_is z) i) x
 
   led_at : (c : ℤ) → Leads ask b (b + 1) c → ask.kind.interval (note ask.query 1) b ≡ Some c
   led_at c l = let e : l.byte ≡ b = omega (arith, l.from, l.below) in subst (λ z. ask.kind.interval (note ask.query 1) z ≡ Some c) e l.at
 
-  pub no_candidate : CandidateTo kind mode counts (note query 1) b None → Among m meaning ask tracks b (b + 1) None
+  pub no_candidate : CandidateTo kind mode bytes (note query 1) b None → Among m meaning ask tracks b (b + 1) None
   no_candidate none =
       λ c x a l admits r.
       none c
       (record {
         leads = sym (intervals 1 b) ∙ led_at c l;
         admitted = subst (λ z. Admits z c) asked.mode_is admits;
-        held = omega (arith, counted b small, held ask bytes tracks one asked.posed c x.column x.track a b r (led_at c l));
+        held = held ask bytes tracks one asked.posed c x.column x.track a b r (led_at c l);
       })
 
-  module _ (by : ℤ) (candidate : Candidate kind mode counts (note query 1) b by) where
+  module _ (by : ℤ) (candidate : Candidate kind mode bytes (note query 1) b by) where
     same_shift : (c : ℤ) → Leads ask b (b + 1) c → c ≡ by
     same_shift c l = let e = led_at c l in let f = intervals 1 b ∙ candidate.leads in cc
 
@@ -156,7 +156,7 @@ module _ (bytes query counts : List ℕ) (kind : Kind) (mode : Mode) (limit trac
     wanted want e each = record { as_long = e ∙ sym (ap length asked.query_is); each = λ k l. intervals (suc k) (get_or want k 0) ∙ each k (omega arith) }
 
     -- some note wants a byte that the score does not hold
-    pub unheld : (want : List ℕ) → length want ≡ length query → ((k : ℕ) → k < length query → kind.interval (get_or query k rest) (get_or want k 0) ≡ Some by) → (k : ℕ) → k < length want → get_or counts (get_or want k 0) 0 ≡ 0 → Among m meaning ask tracks b (b + 1) None
+    pub unheld : (want : List ℕ) → length want ≡ length query → ((k : ℕ) → k < length query → kind.interval (get_or query k rest) (get_or want k 0) ≡ Some by) → (k : ℕ) → k < length want → count_by (eqb (get_or want k 0)) bytes ≡ 0 → Among m meaning ask tracks b (b + 1) None
     unheld want as_long each k l none =
         λ c x a led admits r.
         let f = later_match r (suc k) (omega arith) (omega (arith, ap length asked.query_is)) in
@@ -165,7 +165,7 @@ module _ (bytes query counts : List ℕ) (kind : Kind) (mode : Mode) (limit trac
         let is = one_symbol ask.kind asked.posed.covered.kind_laws (note ask.query (suc k)) (symbol ask.score f.0 f.1) d c f.2 at in
         let sound = sounds ask bytes tracks one asked.posed (note ask.query (suc k)) d c at in
         let some = there ask bytes tracks one asked.posed f.0 f.1 d is (λ z. omega arith) in
-        omega (arith, counted d (omega arith))
+        omega arith
 
     pub none_under : BestUnder m meaning ask by tracks None → Among m meaning ask tracks b (b + 1) None
     none_under none = λ c x a led admits r. none x a (subst (λ z. Rest m ask z 1 x.column x.track a) (same_shift c led) r)

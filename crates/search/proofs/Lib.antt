@@ -14,7 +14,6 @@ pub mod Bettering
 pub mod Concluding
 pub mod Following
 pub mod Trailing
-pub mod Beginning
 pub mod Preferring
 pub mod Leading
 pub mod Telling

@@ -1,7 +1,7 @@
 -- The tables over places, one place further.
-use Rattle.std.proofs.Common.{◌≡◌, ℕ, ◌+◌, ◌-◌, ◌<◌, ◌≤◌, cond, eqb, List, length, get_or, drop, set, replicate, count_by, sym, ap, ◌∙◌, subst, inl, inr, arith}
-use Rattle.std.proofs.lemmas.List.{length-drop, get_or-replicate, get_or-set_same, get_or-set_other, drop_all}
-use Rattle.std.proofs.lemmas.List.Sums.{sum_by-drop_more, count_by-le-length}
+use Rattle.std.proofs.Common.{◌≡◌, ℕ, ◌+◌, ◌-◌, ◌<◌, cond, eqb, List, length, get_or, drop, set, replicate, count_by, sym, ap, ◌∙◌, subst, inl, inr, arith}
+use Rattle.std.proofs.lemmas.List.{get_or-replicate, get_or-set_same, get_or-set_other}
+use Rattle.std.proofs.lemmas.List.Sums.{sum_by-drop_more}
 use Rattle.std.proofs.lemmas.Bool.{cases_eq, eq-eqb, ne_eqb, cond-true, cond-false}
 use Rattle.notation.specs.Kind.{rest}
 use Rattle.search.specs.Tables.{later, Mark, Linked, Marks, Ranked}
@@ -59,28 +59,26 @@ module _ (bytes : List ℕ) where
       let f = count_drop b p l in
       f ∙ e ∙ (let z : 0 + count_by (eqb b) (drop (p + 1) bytes) ≡ count_by (eqb b) (drop (p + 1) bytes) = omega arith in z)
 
-  pub count_few : (b p : ℕ) → count_by (eqb b) (drop p bytes) ≤ length bytes - p
-  count_few b p = omega (arith, count_by-le-length (eqb b) (drop p bytes), length-drop p bytes)
+  -- one place further, of which one fewer is left
+  module _ (p b : ℕ) (l : p < length bytes) (holds : get_or bytes p rest ≡ b) (small : b < 256) (left : List ℕ) (len : length left ≡ 256) (old : Counted left (drop p bytes)) where
+    pub one_left : get_or left b 0 ≡ 1 + count_by (eqb b) (drop (p + 1) bytes)
+    one_left = old b small ∙ count_yes b p l holds
 
-  pub counted_none : (p : ℕ) → p ≡ length bytes → Counted (replicate 256 0) (drop p bytes)
-  counted_none p e b l = get_or-replicate 256 b 0 0 l ∙ sym (ap (count_by (eqb b)) (drop_all p bytes (omega arith)))
-
-  module _ (p b : ℕ) (l : p < length bytes) (holds : get_or bytes p rest ≡ b) (small : b < 256) (counts : List ℕ) (len : length counts ≡ 256) (old : Counted counts (drop (p + 1) bytes)) where
-    pub counted_more : Counted (set counts b (get_or counts b 0 + 1)) (drop p bytes)
-    counted_more d m =
+    pub counted_less : Counted (set left b (get_or left b 0 - 1)) (drop (p + 1) bytes)
+    counted_less d m =
         elim (cases_eq d b) [
           | inl e ↦
-              let f = count_yes d p l (holds ∙ sym e) in
-              let o = old d m in
-              ap (λ z. get_or (set counts b (get_or counts b 0 + 1)) z 0) e ∙ get_or-set_same counts b (get_or counts b 0 + 1) 0 (omega arith) ∙ ap (λ z. get_or counts z 0 + 1) (sym e) ∙ (omega arith)
-          | inr ne ↦ get_or-set_other counts b d (get_or counts b 0 + 1) 0 ne ∙ old d m ∙ sym (count_no d p l (λ e. ne (sym e ∙ holds)))
+              let f = ap (λ z. count_by (eqb z) (drop (p + 1) bytes)) e in
+              ap (λ z. get_or (set left b (get_or left b 0 - 1)) z 0) e ∙ get_or-set_same left b (get_or left b 0 - 1) 0 (omega arith) ∙ (omega (arith, one_left, f))
+          | inr ne ↦ get_or-set_other left b d (get_or left b 0 - 1) 0 ne ∙ old d m ∙ count_no d p l (λ e. ne (sym e ∙ holds))
         ]
 
-    pub ranked_more : (after : List ℕ) → p < length after → Ranked bytes after (p + 1) → Ranked bytes (set after p (get_or counts b 0)) p
-    ranked_more after room ranked q m n =
+    pub ranked_more : (after : List ℕ) → p < length after → Ranked bytes after p → Ranked bytes (set after p (get_or left b 0 - 1)) (p + 1)
+    ranked_more after room ranked q m =
         elim (cases_eq q p) [
           | inl e ↦
-              ap (λ z. get_or (set after p (get_or counts b 0)) z 0) e ∙ get_or-set_same after p (get_or counts b 0) 0 room ∙ old b small
+              let f : get_or left b 0 - 1 ≡ count_by (eqb b) (drop (p + 1) bytes) = omega (arith, one_left) in
+              ap (λ z. get_or (set after p (get_or left b 0 - 1)) z 0) e ∙ get_or-set_same after p (get_or left b 0 - 1) 0 room ∙ f
               ∙ ap (λ z. count_by (eqb z) (drop (p + 1) bytes)) (sym holds) ∙ ap (later bytes) (sym e)
-          | inr ne ↦ get_or-set_other after p q (get_or counts b 0) 0 ne ∙ ranked q (omega arith) n
+          | inr ne ↦ get_or-set_other after p q (get_or left b 0 - 1) 0 ne ∙ ranked q (omega arith)
         ]

@@ -1,5 +1,5 @@
 -- Writing the transposed notes one after another.
-use Rattle.std.proofs.Common.{◌≡◌, ℕ, zero, suc, ◌+◌, ◌<◌, ◌≤◌, List, map, length, get_or, take, drop, set, ℤ, Some, sym, refl, ap, ◌∙◌, subst, inl, inr, arith}
+use Rattle.std.proofs.Common.{◌≡◌, ℕ, zero, suc, ◌+◌, ◌<◌, ◌≤◌, List, map, length, get_or, take, drop, set, ℤ, Some, sym, ap, ◌∙◌, subst, inl, inr, arith}
 use Rattle.std.proofs.lemmas.List.{length-map, length-take-le, get_or-set_same, get_or-set_other, get_or-take, take-map, map-set, drop-set-lt}
 use Rattle.std.proofs.lemmas.Bool.{cases_eq}
 use Rattle.notation.specs.Kind.{Kind, rest}
@@ -11,9 +11,6 @@ module _ {S : Type 0} (byte : S → ℕ) (k : Kind) (by : ℤ) (query : List S) 
   pub record Moved (before out : List S) (i : ℕ) : Type 0 where
     pub each : (n : ℕ) → n < i → k.interval (get_or (map byte query) n rest) (get_or (map byte out) n rest) ≡ Some by
     pub behind : drop (length query) out ≡ drop (length query) before
-
-  pub moved_none : (out : List S) → Moved out out 0
-  moved_none out = record { each = λ n l. absurd (omega arith); behind = refl }
 
   module _ (before out : List S) (i : ℕ) (x y : S) (within : i < length query) (room : length query ≤ length out) (is : x ≡ get_or query i x) (at : k.interval (byte x) (byte y) ≡ Some by) (old : Moved before out i) where
     pub moved_more : Moved before (set out i y) (i + 1)

@@ -5,10 +5,9 @@ use Rattle.std.proofs.lemmas.List.Sums.{sum_by-drop_more, sum_by-take-drop}
 use Rattle.std.proofs.lemmas.Bool.{cases_eq}
 use Rattle.price.specs.Pricing.{Pricing}
 use Rattle.splitting.specs.Score.{Question}
-use Rattle.search.specs.Tables.{later, Mark, Marks}
+use Rattle.search.specs.Tables.{later}
 use Rattle.search.specs.declared.row.Row.{Row}
 use Rattle.search.specs.Rows.{value}
-use Rattle.search.specs.Workspace.{Counted}
 use Rattle.search.specs.Resting.{Posed, Wants, NextNotes, LeastRow, Leads, LeadingRow, step_at, offset_of, row_of, RowRight, RowsRight}
 use Rattle.search.proofs.RowFilling.{value_same}
 use Rattle.search.proofs.Valuing.{rank_below}
@@ -100,24 +99,15 @@ module _ (bytes want : List ℕ) where
       })
 
 -- the row of a note, counted from 0
-abbrev pub standing : List ℕ → List ℕ → List ℕ → ℕ → Row
-standing bytes want last k = record { byte = get_or want k 0; start = get_or last (get_or want k 0) 0; offset = offset_of bytes want k }
+abbrev pub standing : List ℕ → List ℕ → ℕ → Row
+standing bytes want k = record { byte = get_or want k 0; offset = offset_of bytes want k }
 
 -- what filling a row from the next one asks
-abbrev pub Asks : List ℕ → ℕ → ℕ → ℕ → Row → Row → Type 0
-Asks bytes prices steps entries r n =
-    (n.offset + count_by (eqb n.byte) bytes ≤ r.offset)
-    × (r.offset + count_by (eqb r.byte) bytes ≤ prices)
-    × (r.offset + count_by (eqb r.byte) bytes ≤ steps)
-    × (count_by (eqb n.byte) bytes ≤ entries)
-    × Mark bytes r.byte (length bytes) r.start
-    × Mark bytes n.byte (length bytes) n.start
+abbrev pub Asks : List ℕ → ℕ → Row → Row → Type 0
+Asks bytes need r n = (n.offset + count_by (eqb n.byte) bytes ≤ r.offset) × (r.offset + count_by (eqb r.byte) bytes ≤ need)
 
-pub asked : (bytes want last : List ℕ) (prices steps entries k : ℕ) → Marks bytes last (length bytes) → ((j : ℕ) → get_or want j 0 < 256) → k + 1 < length want → sum_by (λ b. count_by (eqb b) bytes) want ≤ prices → sum_by (λ b. count_by (eqb b) bytes) want ≤ steps → sum_by (λ b. count_by (eqb b) bytes) want ≤ entries → Asks bytes prices steps entries (standing bytes want last k) (standing bytes want last (k + 1))
-asked bytes want last prices steps entries k marks small l p s e =
-    let here = offset_all bytes want k (omega arith) in
-    let there = offset_all bytes want (k + 1) l in
-    (omega (arith, offset_next bytes want k l), omega arith, omega arith, omega arith, marks (get_or want k 0) (small k), marks (get_or want (k + 1) 0) (small (k + 1)))
+pub asked : (bytes want : List ℕ) (k : ℕ) → k + 1 < length want → Asks bytes (sum_by (λ b. count_by (eqb b) bytes) want) (standing bytes want k) (standing bytes want (k + 1))
+asked bytes want k l = (omega (arith, offset_next bytes want k l), offset_all bytes want k (omega arith))
 
 -- and what it gives
 abbrev pub Gives : {P : Type 0} (m : Pricing) → (P → m.Meaning) → List ℕ → ℕ → ℕ → List (Option P) → List (Option P) → List ℕ → List ℕ → Row → Row → Type 0
@@ -127,7 +117,7 @@ Gives m meaning bytes tracks limit prices prices' steps steps' r n =
     × ((ask : Question) (c : ℤ) (i : ℕ) → NextNotes ask c i r.byte n.byte bytes tracks limit → LeastRow m meaning ask bytes tracks c (suc i) n.byte (value bytes n.byte n.offset prices) 0 → LeastRow m meaning ask bytes tracks c i r.byte (value bytes r.byte r.offset prices') 0 × LeadingRow m meaning ask bytes tracks r.byte (value bytes r.byte r.offset prices') (value bytes n.byte n.offset prices) (step_at bytes r.offset steps') 0)
 
 -- the row of a note from that of the next
-pub standing_before : (bytes want last counts : List ℕ) (k : ℕ) → Counted counts bytes → ((j : ℕ) → get_or want j 0 < 256) → k + 1 < length want → (next row : Row) → next ≡ standing bytes want last (k + 1) → row ≡ record { byte = get_or want k 0; start = get_or last (get_or want k 0) 0; offset = next.offset + get_or counts next.byte 0 } → row ≡ standing bytes want last k
-standing_before bytes want last counts k counted small l next row is made =
-    let e : next.offset + get_or counts next.byte 0 ≡ offset_of bytes want k = (λ j. (is j).offset + get_or counts (is j).byte 0) ∙ (let h = counted (get_or want (k + 1) 0) (small (k + 1)) in omega (arith, offset_next bytes want k l)) in
-    made ∙ (λ j. record { byte = get_or want k 0; start = get_or last (get_or want k 0) 0; offset = e j })
+pub standing_before : (bytes want : List ℕ) (k : ℕ) → k + 1 < length want → (next row : Row) → next ≡ standing bytes want (k + 1) → row ≡ record { byte = get_or want k 0; offset = next.offset + count_by (eqb next.byte) bytes } → row ≡ standing bytes want k
+standing_before bytes want k l next row is made =
+    let e : next.offset + count_by (eqb next.byte) bytes ≡ offset_of bytes want k = (λ j. (is j).offset + count_by (eqb (is j).byte) bytes) ∙ (omega (arith, offset_next bytes want k l)) in
+    made ∙ (λ j. record { byte = get_or want k 0; offset = e j })

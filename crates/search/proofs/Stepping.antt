@@ -85,9 +85,6 @@ module _ (ask : Question) (bytes : List ℕ) (tracks : ℕ) (one : 1 ≤ tracks)
       charged_at : (a a' : m.Meaning) (g g' : ℕ) → a ≡ a' → g ≡ g' → m.charged a g ≡ m.charged a' g'
       charged_at a a' g g' e f = λ z. m.charged (e z) (f z)
 
-      OpenAt : m.Meaning → Type 0
-      OpenAt = Open m ask (entry ask bytes tracks one posed m meaning row) (column_of tracks q)
-
       -- every entry open is one that was put in
       opened_is : (x : m.Meaning) → Open m ask (entry ask bytes tracks one posed m meaning row) (column_of tracks q) x → (k : ℕ) × (d : Entry P) × (slice_get h.puts k ≡ Some d) × Within h d × (cost m meaning h.position d ≡ x)
       opened_is x (opened {a = a} j' t' later near e) =

@@ -15,7 +15,7 @@ use Rattle.search.specs.Resting.{offset_of}
 use Rattle.search.specs.Rows.{column_of, track_of}
 use Rattle.search.specs.Topmost.{place_at}
 use Rattle.search.specs.Trails.{Trail, Written}
-use Rattle.search.specs.Workspace.{Counted, workspace}
+use Rattle.search.specs.Workspace.{workspace}
 use Rattle.search.specs.declared.candidates.Choice.{Choice}
 use Rattle.search.proofs.Leading.{room, held}
 use Rattle.search.proofs.Valuing.{value_some}
@@ -30,16 +30,15 @@ module _ (bytes query : List ℕ) (kind : Kind) (mode : Mode) (limit tracks : �
     settled_trail = record { posed = asked.posed; wanted = s.wanted; right = λ k l. s.rows ask o.shift asked.posed asked.limit_is s.wanted k (omega arith) l; stands = s.row_is }
 
     -- the rows under the transposition have room in the workspace
-    pub settled_room : 1 ≤ tracks → KindLaws kind → 1 ≤ length query → (counts : List ℕ) → Counted counts bytes → sum_by (λ b. count_by (eqb b) bytes) want ≤ workspace kind mode bytes query
-    settled_room one laws some counts counted =
+    pub settled_room : 1 ≤ tracks → KindLaws kind → 1 ≤ length query → sum_by (λ b. count_by (eqb b) bytes) want ≤ workspace kind mode bytes query
+    settled_room one laws some =
         let b = get_or want 0 0 in
         let n = ap length asked.query_is in
         let heard : (i x : ℕ) → ask.kind.interval (get_or ask.query i rest) x ≡ kind.interval (get_or query i rest) x = λ i x z. (asked.kind_is z).interval (get_or (asked.query_is z) i rest) x in
         let leads = s.wanted.each 0 (omega (arith, s.wanted.as_long)) in
-        let small : b < 256 = let l = laws.sounding b (laws.present (note query 1) b o.shift (sym (heard 0 b) ∙ leads)).1 in omega arith in
         let there = held ask bytes tracks one asked.posed o.shift (column_of tracks o.place) (track_of tracks o.place) (meaning o.price) b s.best.stands.rest_is leads in
-        let candidate : Candidate kind mode counts (note query 1) b o.shift = record { leads = sym (heard 0 b) ∙ leads; admitted = subst (λ z. Admits z o.shift) asked.mode_is s.best.stands.admitted; held = omega (arith, counted b small) } in
-        room kind laws mode counts bytes query want b o.shift small counted (s.wanted.as_long ∙ n) candidate (λ i l. sym (heard i (get_or want i 0)) ∙ s.wanted.each i (omega (arith, s.wanted.as_long)))
+        let candidate : Candidate kind mode bytes (note query 1) b o.shift = record { leads = sym (heard 0 b) ∙ leads; admitted = subst (λ z. Admits z o.shift) asked.mode_is s.best.stands.admitted; held = there } in
+        room kind laws mode bytes query want b o.shift (s.wanted.as_long ∙ n) candidate (λ i l. sym (heard i (get_or want i 0)) ∙ s.wanted.each i (omega (arith, s.wanted.as_long)))
 
     pub settled_place : o.place < length bytes
     settled_place = (value_some bytes (get_or want 0 0) (offset_of bytes want 0) prices o.place o.price s.row_is).0

@@ -1,5 +1,5 @@
 -- Pieces written by following the steps of the rows.
-use Rattle.std.proofs.Common.{◌≡◌, ℕ, suc, ◌+◌, ◌*◌, ◌/◌, ◌%◌, ◌<◌, ◌≤◌, eqb, List, [], ◌∷◌, ◌++◌, map, length, get_or, drop, set, ℤ, Some, sum_by, count_by, Option, sym, refl, ap, ◌∙◌, subst, add-mul, arith, drop-cons}
+use Rattle.std.proofs.Common.{◌≡◌, ℕ, suc, ◌+◌, ◌*◌, ◌/◌, ◌%◌, ◌<◌, ◌≤◌, eqb, List, [], ◌∷◌, ◌++◌, length, get_or, drop, set, ℤ, Some, sum_by, count_by, Option, sym, refl, ap, ◌∙◌, subst, add-mul, arith, drop-cons}
 use Rattle.std.specs.Option.{option_map}
 use Rattle.std.proofs.lemmas.Nat.{div-mul-add, mod-mul-add, mod_below, div-add-mod'}
 use Rattle.std.proofs.lemmas.List.{append_assoc, length-append, set_at}
@@ -12,16 +12,14 @@ use Rattle.splitting.specs.Rest.{Rest, Least}
 use Rattle.splitting.specs.Answer.{beginning}
 use Rattle.splitting.proofs.Depths.{rest_matches}
 use Rattle.splitting.proofs.Rests.{matches_at}
-use Rattle.search.specs.Tables.{Surveyed}
-use Rattle.search.specs.declared.table.Ground.{Ground}
-use Rattle.search.specs.Workspace.{Counted}
+use Rattle.search.specs.Tables.{Ranked}
 use Rattle.search.specs.Rows.{column_of, track_of, going_on}
 use Rattle.search.specs.Resting.{Leads, nowhere, on, over, step_at, offset_of, row_of}
 use Rattle.search.specs.Topmost.{place_at}
 use Rattle.search.specs.Trails.{Trail, Written}
 use Rattle.search.proofs.Following.{sized_as, last_price, Begun, Lying, begun_none, lying_one, lying_more, begun_more, begun_ends}
-use Rattle.search.proofs.Rowing.{offset_all, offset_next}
-use Rattle.search.proofs.Valuing.{value_some, ranked_at, rank_in}
+use Rattle.search.proofs.Rowing.{offset_all}
+use Rattle.search.proofs.Valuing.{value_some, rank_in}
 
 -- a piece of one note, which lies at a place
 abbrev pub lone_at : ℕ → ℕ → ℕ → Piece
@@ -196,16 +194,9 @@ pub stays : {P : Type 0} {m : Pricing} {meaning : P → m.Meaning} {bytes : List
 stays {bytes = bytes} {want = want} {prices = prices} {k = k} {q = q} f = let s = value_some bytes (get_or want k 0) (offset_of bytes want k) prices q f.price f.stands in (s.0, s.1)
 
 -- where the step of a place stands
-module _ {S : Type 0} (byte : S → ℕ) (x : Ground S) (surveyed : Surveyed byte x) (want steps : List ℕ) (k q offset : ℕ) (here : k < length want) (room : sum_by (λ b. count_by (eqb b) (map byte x.cells.now)) want ≤ length steps) (is : offset ≡ offset_of (map byte x.cells.now) want k) (l : q < length x.cells.now) (e : get_or (map byte x.cells.now) q rest ≡ get_or want k 0) where
-  fits : offset + count_by (eqb (get_or want k 0)) (map byte x.cells.now) ≤ length steps
-  fits = omega (arith, offset_all (map byte x.cells.now) want k here)
+module _ (bytes after : List ℕ) (ranked : Ranked bytes after (length bytes)) (want steps : List ℕ) (k q offset : ℕ) (here : k < length want) (room : sum_by (λ b. count_by (eqb b) bytes) want ≤ length steps) (is : offset ≡ offset_of bytes want k) (l : q < length bytes) (e : get_or bytes q rest ≡ get_or want k 0) where
+  pub step_in : offset + get_or after q 0 < length steps
+  step_in = rank_in bytes after ranked (get_or want k 0) offset (length steps) q (omega (arith, offset_all bytes want k here)) l e
 
-  pub step_in : offset + get_or x.after.now q 0 < length steps
-  step_in = rank_in byte x surveyed (get_or want k 0) offset (length steps) q fits l e
-
-  pub step_is : get_or steps (offset + get_or x.after.now q 0) 0 ≡ step_at (map byte x.cells.now) (offset_of (map byte x.cells.now) want k) steps q
-  step_is = λ j. get_or steps (is j + ranked_at byte x surveyed (get_or want k 0) offset (length steps) q fits l e j) 0
-
--- the row of the next note stands before
-pub offset_lower : (bytes want counts : List ℕ) (k offset : ℕ) → Counted counts bytes → get_or want (k + 1) 0 < 256 → k + 1 < length want → offset ≡ offset_of bytes want k → offset ≡ offset_of bytes want (k + 1) + get_or counts (get_or want (k + 1) 0) 0
-offset_lower bytes want counts k offset counted small more is = let h = counted (get_or want (k + 1) 0) small in omega (arith, offset_next bytes want k more)
+  pub step_is : get_or steps (offset + get_or after q 0) 0 ≡ step_at bytes (offset_of bytes want k) steps q
+  step_is = λ j. get_or steps (is j + ranked q l j) 0

@@ -1,11 +1,10 @@
 -- What a row has at a place.
-use Rattle.std.proofs.Common.{◌≡◌, ℕ, ◌+◌, ◌-◌, ◌<◌, ◌≤◌, cond, eqb, ltb, List, map, length, get_or, drop, Some, None, count_by, Option, sym, refl, ap, ◌∙◌, inl, inr, arith}
-use Rattle.std.proofs.lemmas.List.{drop-drop, length-map}
+use Rattle.std.proofs.Common.{◌≡◌, ℕ, ◌+◌, ◌-◌, ◌<◌, ◌≤◌, cond, eqb, ltb, List, length, get_or, drop, Some, None, count_by, Option, sym, refl, ap, ◌∙◌, subst, inl, inr, arith}
+use Rattle.std.proofs.lemmas.List.{drop-drop}
 use Rattle.std.proofs.lemmas.List.Sums.{sum_by-take-drop}
 use Rattle.std.proofs.lemmas.Bool.{cases_lt, cases_eq, eq-eqb, ne_eqb, lt-ltb, le-ltb, cond-true, cond-false}
 use Rattle.notation.specs.Kind.{rest}
-use Rattle.search.specs.Tables.{later, Surveyed}
-use Rattle.search.specs.declared.table.Ground.{Ground}
+use Rattle.search.specs.Tables.{later, Mark, Linked, Ranked}
 use Rattle.search.specs.Rows.{value}
 use Rattle.search.proofs.Linking.{count_yes}
 
@@ -76,9 +75,16 @@ pub value_byte : {P : Type 0} (bytes : List ℕ) (b offset : ℕ) (prices : List
 value_byte bytes b offset prices q a e = (value_some bytes b offset prices q a e).1
 
 -- where the price of a place stands
-module _ {S : Type 0} (byte : S → ℕ) (x : Ground S) (surveyed : Surveyed byte x) (b offset n q : ℕ) (room : offset + count_by (eqb b) (map byte x.cells.now) ≤ n) (l : q < length x.cells.now) (e : get_or (map byte x.cells.now) q rest ≡ b) where
-  pub ranked_at : get_or x.after.now q 0 ≡ later (map byte x.cells.now) q
-  ranked_at = surveyed.ranked q (omega arith) (omega (arith, length-map x.cells.now byte))
+pub rank_in : (bytes after : List ℕ) → Ranked bytes after (length bytes) → (b offset n q : ℕ) → offset + count_by (eqb b) bytes ≤ n → q < length bytes → get_or bytes q rest ≡ b → offset + get_or after q 0 < n
+rank_in bytes after ranked b offset n q room l e = omega (arith, ranked q l, rank_below bytes b q l e)
 
-  pub rank_in : offset + get_or x.after.now q 0 < n
-  rank_in = omega (arith, ranked_at, rank_below (map byte x.cells.now) b q (omega (arith, length-map x.cells.now byte)) e)
+-- one turn of a loop over the places that hold a byte: the place holds it, and the mark left is its mark below it
+pub record Turn (bytes : List ℕ) (b q w : ℕ) : Type 0 where
+  pub inside : q < length bytes
+  pub is : get_or bytes q rest ≡ b
+  pub mark : Mark bytes b q w
+
+pub turn : (bytes previous : List ℕ) → Linked bytes previous (length bytes) → (b mark q w : ℕ) → mark ≤ length bytes → (0 < mark → get_or bytes (mark - 1) rest ≡ b) → mark ≡ q + 1 → w ≡ get_or previous q 0 → Turn bytes b q w
+turn bytes previous linked b mark q w low holds step next =
+    let is : get_or bytes q rest ≡ b = subst (λ z. get_or bytes z rest ≡ b) (let e : mark - 1 ≡ q = omega arith in e) (holds (omega arith)) in
+    record { inside = omega arith; is = is; mark = subst (Mark bytes b q) (sym next) (subst (λ z. Mark bytes z q (get_or previous q 0)) is (linked q (omega arith))) }

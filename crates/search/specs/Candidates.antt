@@ -1,5 +1,5 @@
 -- The best rest of a query over candidate transpositions, which lead from the first note to a byte.
-use Rattle.std.specs.Prelude.{◌≡◌, ℕ, ◌<◌, ◌≤◌, Bool, true, false, T, List, map, length, ℤ, Some, None, Option, slice_index}
+use Rattle.std.specs.Prelude.{◌≡◌, ℕ, ◌<◌, ◌≤◌, Bool, true, false, T, List, length, ℤ, Some, None, count_by, Option, nat_eq}
 use Rattle.notation.specs.Kind.{Kind}
 use Rattle.notation.specs.declared.mode.Mode.{Mode}
 use Rattle.price.specs.Pricing.{Pricing}
@@ -10,9 +10,9 @@ use Rattle.splitting.specs.declared.Place.{Place}
 use Rattle.search.specs.Rows.{column_of, track_of}
 use Rattle.search.specs.Resting.{Posed, Wanted, RowsRight, row_of}
 use Rattle.search.specs.Topmost.{place_at}
-use Rattle.search.specs.Workspace.{Counted, workspace}
-use Rattle.search.specs.Tables.{Surveyed, Marks}
-use Rattle.search.specs.declared.table.Ground.{Ground}
+use Rattle.search.specs.Workspace.{workspace}
+use Rattle.search.specs.Sheets.{Room}
+use Rattle.search.specs.declared.sheets.Sheets.{Sheets}
 use Rattle.search.specs.declared.candidates.Choice.{Choice}
 
 -- a question about a score, with its kind of symbols, its mode, its limit and its query
@@ -24,40 +24,26 @@ pub record Asked (ask : Question) (bytes : List ℕ) (tracks : ℕ) (kind : Kind
   pub query_is : ask.query ≡ query
 
 -- a transposition that the mode admits, from the first note to a byte that the score holds
-pub record Candidate (kind : Kind) (mode : Mode) (counts : List ℕ) (first b : ℕ) (by : ℤ) : Type 0 where
+pub record Candidate (kind : Kind) (mode : Mode) (bytes : List ℕ) (first b : ℕ) (by : ℤ) : Type 0 where
   pub leads : kind.interval first b ≡ Some by
   pub admitted : Admits mode by
-  pub held : 0 < slice_index counts b
+  pub held : 0 < count_by (nat_eq b) bytes
 
 -- the candidate that leads to a byte, or absence where there is none
 abbrev pub CandidateTo : Kind → Mode → List ℕ → ℕ → ℕ → Option ℤ → Type 0
-CandidateTo kind mode counts first b None = (c : ℤ) → Candidate kind mode counts first b c → ⊥
-CandidateTo kind mode counts first b (Some by) = Candidate kind mode counts first b by
+CandidateTo kind mode bytes first b None = (c : ℤ) → Candidate kind mode bytes first b c → ⊥
+CandidateTo kind mode bytes first b (Some by) = Candidate kind mode bytes first b by
 
 -- a choice, if there is one, is under a candidate that leads to a byte
 abbrev pub UnderCandidate : {P : Type 0} → Kind → Mode → List ℕ → ℕ → Option (Choice P) → Type 0
-UnderCandidate kind mode counts first None = Unit {0}
-UnderCandidate kind mode counts first (Some o) = (b : ℕ) × (b < 256) × Candidate kind mode counts first b o.shift
+UnderCandidate kind mode bytes first None = Unit {0}
+UnderCandidate kind mode bytes first (Some o) = (b : ℕ) × Candidate kind mode bytes first b o.shift
 
--- a sheet of this size has room for the rows of a query under a transposition
-pub record Roomy (kind : Kind) (counts bytes query : List ℕ) (shift : ℤ) (size : ℕ) : Type 0 where
-  pub mode : Mode
-  pub byte : ℕ
-  pub small : byte < 256
-  pub candidate : Candidate kind mode counts (note query 1) byte shift
-  pub fits : workspace kind mode bytes query ≤ size
-
--- A score with its tables, a query of some notes, a list of a byte a note, and three sheets of the sizes told, with
--- room for the rows under each candidate.
-pub record Ready {S : Type 0} (byte : S → ℕ) (kind : Kind) (mode : Mode) (ground : Ground S) (last counts : List ℕ) (query : List S) (want prices steps entries : ℕ) : Type 0 where
-  pub surveyed : Surveyed byte ground
-  pub marks : Marks (map byte ground.cells.now) last (length (map byte ground.cells.now))
-  pub counted : Counted counts (map byte ground.cells.now)
+-- a query of some notes, a list of a byte a note, and sheets with room for the rows under each candidate
+pub record Ready {P : Type 0} (kind : Kind) (mode : Mode) (bytes query : List ℕ) (want : ℕ) (sheets : Sheets P) : Type 0 where
   pub some : 1 ≤ length query
   pub as_long : want ≡ length query
-  pub room_prices : workspace kind mode (map byte ground.cells.now) (map byte query) ≤ prices
-  pub room_steps : workspace kind mode (map byte ground.cells.now) (map byte query) ≤ steps
-  pub room_entries : workspace kind mode (map byte ground.cells.now) (map byte query) ≤ entries
+  pub room : Room (workspace kind mode bytes query) sheets
 
 -- a choice costs no more than another, and lies at no later place if the other costs no more either
 pub record First {P : Type 0} (m : Pricing) (meaning : P → m.Meaning) (x y : Choice P) : Type 0 where

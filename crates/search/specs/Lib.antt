@@ -3,6 +3,7 @@ pub mod Queries
 pub mod Faults
 pub mod Workspace
 pub mod Tables
+pub mod Sheets
 pub mod Rows
 pub mod Resting
 pub mod Topmost

@@ -15,9 +15,11 @@ use Rattle.search.specs.Candidates.{Asked}
 use Rattle.search.specs.Columns.{columns_of}
 use Rattle.search.specs.Faults.{query_told, question_told}
 use Rattle.search.specs.Queries.{query_refusal, list_refusal}
+use Rattle.search.specs.Sheets.{Room}
 use Rattle.search.specs.Workspace.{workspace, workspace_of}
 use Rattle.search.specs.declared.fault.QueryFault.{QueryFault}
 use Rattle.search.specs.declared.fault.QuestionFault.{QuestionFault}
+use Rattle.search.specs.declared.sheets.Sheets.{Sheets}
 
 -- the columns that a grid spells
 abbrev pub spelled : {S : Type 0} → (S → ℕ) → Grid S → Score
@@ -49,8 +51,8 @@ Sought m meaning ask rule before after untouched r =
     (λ f. (rule ≡ Some (question_told f)) × (after ≡ before) × untouched)
 
 -- Some question is about the score whose symbols stand column after column. Its query has a note and at most as many as
--- the list has room for, and each of three sheets has room for the workspace.
-pub record Granted (bytes : List ℕ) (tracks : ℕ) (kind : Kind) (mode : Mode) (limit : ℕ) (query : List ℕ) (list prices window steps : ℕ) : Type 0 where
+-- the list has room for, and the sheets have room for the workspace.
+pub record Granted {P : Type 0} (bytes : List ℕ) (tracks : ℕ) (kind : Kind) (mode : Mode) (limit : ℕ) (query : List ℕ) (list : ℕ) (sheets : Sheets P) : Type 0 where
   pub ask : Question
   pub asked : Asked ask bytes tracks kind mode limit query
   pub few_symbols : length bytes ≤ 65536
@@ -59,6 +61,4 @@ pub record Granted (bytes : List ℕ) (tracks : ℕ) (kind : Kind) (mode : Mode)
   pub some_note : 1 ≤ length query
   pub few_notes : length query ≤ 64
   pub room_list : length query ≤ list
-  pub room_prices : workspace kind mode bytes query ≤ prices
-  pub room_window : workspace kind mode bytes query ≤ window
-  pub room_steps : workspace kind mode bytes query ≤ steps
+  pub room : Room (workspace kind mode bytes query) sheets

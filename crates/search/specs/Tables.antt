@@ -1,7 +1,6 @@
 -- Where the places that hold one byte lie. Places count from 0: column after column, track after track.
-use Rattle.std.specs.Prelude.{◌≡◌, ℕ, ◌+◌, ◌-◌, ◌<◌, ◌≤◌, List, map, length, drop, count_by, ◌≢◌, nat_eq, slice_index, slice_index_or}
+use Rattle.std.specs.Prelude.{◌≡◌, ℕ, ◌+◌, ◌-◌, ◌<◌, ◌≤◌, List, drop, count_by, ◌≢◌, nat_eq, slice_index, slice_index_or}
 use Rattle.notation.specs.Kind.{rest}
-use Rattle.search.specs.declared.table.Ground.{Ground}
 
 -- how many later places hold the byte of a place
 abbrev pub later : List ℕ → ℕ → ℕ
@@ -22,16 +21,6 @@ Linked bytes previous n = (p : ℕ) → p < n → Mark bytes (slice_index_or byt
 abbrev pub Marks : List ℕ → List ℕ → ℕ → Type 0
 Marks bytes last u = (b : ℕ) → b < 256 → Mark bytes b u (slice_index last b)
 
--- each place from p on has the number of later places with its byte
+-- each place below n has the number of later places with its byte
 abbrev pub Ranked : List ℕ → List ℕ → ℕ → Type 0
-Ranked bytes after p = (q : ℕ) → p ≤ q → q < length bytes → slice_index after q ≡ later bytes q
-
--- a score with the tables over its places
-pub record Surveyed {S : Type 0} (byte : S → ℕ) (x : Ground S) : Type 0 where
-  pub linked : Linked (map byte x.cells.now) x.previous.now (length x.cells.now)
-  pub ranked : Ranked (map byte x.cells.now) x.after.now 0
-  pub long_previous : length x.cells.now ≤ length x.previous.now
-  pub long_after : length x.cells.now ≤ length x.after.now
-  pub few : length x.cells.now ≤ 65536
-  pub one : 1 ≤ x.tracks
-  pub narrow : x.tracks ≤ 16
+Ranked bytes after n = (q : ℕ) → q < n → slice_index after q ≡ later bytes q

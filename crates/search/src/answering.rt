@@ -1,56 +1,42 @@
 //! The answer to a question about symbols that stand column after column.
 
-ghost use Rattle.std.specs.Prelude.{◌≤◌, map, length};
+ghost use Rattle.std.specs.Prelude.{◌≡◌, map, length};
 ghost use Rattle.splitting.specs.Score.{Question};
 ghost use Rattle.splitting.specs.Answer.{Answers, meant};
-ghost use Rattle.search.specs.Candidates.{Asked, Ready};
+ghost use Rattle.search.specs.Candidates.{Asked};
 ghost use Rattle.search.specs.Questions.{Granted};
 
 use super::candidates::settle;
-use super::pieces::{place_of, write_pieces};
-use super::row::Row;
-use super::rows::first_offset;
+use super::pieces::write_pieces;
+use super::question::Asking;
+use super::sheets::Sheets;
 use super::table::{Ground, count_later, link_places};
-use notation::{Mode, Symbol};
-use price::{Entry, Price};
+use super::tally::Tally;
+use notation::Symbol;
+use price::Price;
 use splitting::{Answer, Found, Piece};
 
 // The answer, from the tables over the places.
 fn answer_from<S: Symbol, P: Price>(
-    ground: Ground<S>,
-    last: &[u32; 256],
-    counts: &[u32; 256],
-    mode: Mode,
-    query: &[S],
-    limit: u32,
+    ground: &Ground<S>,
+    asking: &Asking<S>,
     want: &mut [u8],
     list: &mut [Piece],
-    prices: &mut [Option<P>],
-    window: &mut [Entry<P>],
-    steps: &mut [u32],
+    sheets: &mut Sheets<P>,
 ) -> Answer<P>
-    requires granted { Granted (map S.byte ground.cells.now) ground.tracks S.kind mode limit (map S.byte query.now) (length list.old) (length prices.old) (length window.old) (length steps.old) }
-    requires ready { Ready S.byte S.kind mode ground last.now counts.now query.now (length want.old) (length prices.old) (length steps.old) (length window.old) }
-    ensures { (ask : Question) → Asked ask (map S.byte ground.entry.cells.now) ground.entry.tracks S.kind mode limit (map S.byte query.now) → Answers ask P.pricing (meant P.meaning result) list.old list.new }
+    requires granted { Granted (map S.byte ground.now.tally.cells.now) ground.now.tracks S.kind asking.now.mode asking.now.limit (map S.byte asking.now.query.now) (length list.old) sheets.old }
+    requires as_long { length want.old ≡ length asking.now.query.now }
+    ensures { (ask : Question) → Asked ask (map S.byte ground.now.tally.cells.now) ground.now.tracks S.kind asking.now.mode asking.now.limit (map S.byte asking.now.query.now) → Answers ask P.pricing (meant P.meaning result) list.old list.new }
 {
-    let found = settle(
-        ground, last, counts, mode, query, limit, want, prices, steps, window,
-    );
-    let Some(best) = found else {
+    let Some(best) = settle(ground, asking, want, sheets) else {
         return Answer::None;
     };
-    let byte = want[0];
-    let first = Row {
-        byte,
-        start: last[byte as usize] as usize,
-        offset: first_offset(counts, want),
-    };
-    let count = write_pieces::<S, P>(ground, counts, want, first, steps, best.place, list);
+    let count = write_pieces::<S, P>(ground, want, sheets.steps, best.place, list);
     Answer::Found(Found {
         price: best.price,
         count,
         shift: best.shift,
-        place: place_of(ground.tracks, best.place),
+        place: ground.place_of(best.place),
     })
 }
 
@@ -59,39 +45,26 @@ fn answer_from<S: Symbol, P: Price>(
 pub(crate) fn answer<S: Symbol, P: Price>(
     cells: &[S],
     tracks: usize,
-    mode: Mode,
-    query: &[S],
-    limit: u32,
+    asking: &Asking<S>,
     list: &mut [Piece],
-    prices: &mut [Option<P>],
-    window: &mut [Entry<P>],
-    steps: &mut [u32],
+    sheets: &mut Sheets<P>,
 ) -> Answer<P>
-    requires { Granted (map S.byte cells.now) tracks S.kind mode limit (map S.byte query.now) (length list.old) (length prices.old) (length window.old) (length steps.old) }
-    ensures { (ask : Question) → Asked ask (map S.byte cells.now) tracks S.kind mode limit (map S.byte query.now) → Answers ask P.pricing (meant P.meaning result) list.old list.new }
+    requires { Granted (map S.byte cells.now) tracks S.kind asking.now.mode asking.now.limit (map S.byte asking.now.query.now) (length list.old) sheets.old }
+    ensures { (ask : Question) → Asked ask (map S.byte cells.now) tracks S.kind asking.now.mode asking.now.limit (map S.byte asking.now.query.now) → Answers ask P.pricing (meant P.meaning result) list.old list.new }
 {
+    let tally = Tally::new(cells);
     let mut previous = [0u32; 65536];
     let mut after = [0u16; 65536];
     let last = link_places(cells, &mut previous);
-    let counts = count_later(cells, &mut after);
+    count_later(&tally, &mut after);
     let ground = Ground {
-        cells,
+        tally,
         tracks,
-        previous: &previous,
+        previous: &previous[..cells.len()],
         after: &after,
+        last: &last,
     };
     let mut want = [0u8; 64];
-    answer_from(
-        ground,
-        &last,
-        &counts,
-        mode,
-        query,
-        limit,
-        &mut want[0..query.len()],
-        list,
-        prices,
-        window,
-        steps,
-    )
+    let notes = asking.query.len();
+    answer_from(&ground, asking, &mut want[..notes], list, sheets)
 }

@@ -9,9 +9,11 @@ use price::{Price, Window};
 
 /// The step to the next column of the same track. Any other step is the place that the next note is
 /// handed over to.
+// Stays: the caller's sheet of steps is of 32-bit numbers, and has no room for an enum.
 pub(crate) const GOING_ON: u32 = u32::MAX;
 
 /// A hand-over: the place that the next note lies at, and the price with the hand-over charged.
+// Stays: beside `Best`, since a step is a place of 32 bits.
 #[derive(Clone, Copy)]
 pub(crate) struct Over<P> {
     pub(crate) price: P,
@@ -25,9 +27,7 @@ pub(crate) fn hand_over<P: Price>(window: &mut Window<P>, from: u32) -> Option<O
     let Ok(told) = window.least(from) else {
         return None;
     };
-    let Some(entry) = told else {
-        return None;
-    };
+    let entry = told?;
     let gap = entry.position.saturating_sub(from).saturating_sub(1);
     Some(Over {
         price: entry.price.charged(gap),
@@ -39,18 +39,16 @@ pub(crate) fn hand_over<P: Price>(window: &mut Window<P>, from: u32) -> Option<O
 pub(crate) fn choose<P: Price>(on: Option<P>, over: Option<Over<P>>) -> (Option<P>, u32)
     ensures { Chosen P.pricing P.meaning on over result.0 result.1 }
 {
-    let Some(a) = on else {
-        return match over {
-            Some(o) => (Some(o.price), o.place),
-            None => (None, GOING_ON),
-        };
-    };
-    let Some(o) = over else {
-        return (Some(a), GOING_ON);
-    };
-    if a.not_above(o.price) {
-        (Some(a), GOING_ON)
-    } else {
-        (Some(o.price), o.place)
+    match (on, over) {
+        (None, None) => (None, GOING_ON),
+        (None, Some(o)) => (Some(o.price), o.place),
+        (Some(a), None) => (Some(a), GOING_ON),
+        (Some(a), Some(o)) => {
+            if a.not_above(o.price) {
+                (Some(a), GOING_ON)
+            } else {
+                (Some(o.price), o.place)
+            }
+        }
     }
 }

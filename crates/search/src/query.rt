@@ -12,12 +12,7 @@ use notation::Symbol;
 fn sounding_front<S: Symbol>(query: &[S]) -> usize
     ensures { result ≡ prefix_len sounds (map S.byte query.now) }
 {
-    for (i, s) in query.iter().enumerate() {
-        if s.write() == 255 {
-            return i;
-        }
-    }
-    query.len()
+    query.iter().take_while(|s| s.write() != 255).count()
 }
 
 // Checks a query: its length, then that each note sounds.

@@ -2,29 +2,39 @@
 
 ghost use Rattle.std.specs.Prelude.{◌≡◌, ◌≤◌, map, length};
 ghost use Rattle.search.specs.Tables.{Linked, Marks, Ranked};
-ghost use Rattle.search.specs.Workspace.{Counted};
 
+use super::tally::Tally;
 use notation::Symbol;
 
-/// A score's symbols, column after column, with two tables over its places: the mark of its byte
-/// below each place, which is one more than the last earlier place that holds the byte, or 0; and
-/// how many later places hold the byte.
-#[derive(Clone, Copy)]
-pub(crate) struct Ground<'a, S> {
-    pub(crate) cells: &'a [S],
+/// A score's symbols with the tables over its places: the mark of its byte below each place, which
+/// is one more than the last earlier place that holds the byte, or 0; how many later places hold the
+/// byte; and the mark of each byte below the end.
+// Stays: a mark of 0 for none, since an array of options is twice as large.
+#[derive(Drop)]
+pub(crate) struct Ground<'a, S: Symbol> {
+    pub(crate) tally: Tally<'a, S>,
     pub(crate) tracks: usize,
     pub(crate) previous: &'a [u32],
     pub(crate) after: &'a [u16],
+    pub(crate) last: &'a [u32; 256],
+    ghost linked: { Linked (map S.byte tally.cells.now) previous.now (length (map S.byte tally.cells.now)) },
+    ghost ranked: { Ranked (map S.byte tally.cells.now) after.now (length (map S.byte tally.cells.now)) },
+    ghost marks: { Marks (map S.byte tally.cells.now) last.now (length (map S.byte tally.cells.now)) },
+    ghost long_previous: { length previous.now ≡ length (map S.byte tally.cells.now) },
+    ghost long_after: { length tally.cells.now ≤ length after.now },
+    ghost some_track: { 1 ≤ tracks },
+    ghost few_tracks: { tracks ≤ 16 },
 }
 
 // Links each place to the last one before it that holds the same byte, and tells the mark of each
 // byte below the end.
 pub(crate) fn link_places<S: Symbol>(cells: &[S], previous: &mut [u32]) -> [u32; 256]
     requires { (length cells.now ≤ 65536) × (length cells.now ≤ length previous.old) }
-    ensures linked { Linked (map S.byte cells.now) previous.new (length cells.now) }
-    ensures marks { Marks (map S.byte cells.now) result (length cells.now) }
+    ensures linked { Linked (map S.byte cells.now) previous.new (length (map S.byte cells.now)) }
+    ensures marks { Marks (map S.byte cells.now) result (length (map S.byte cells.now)) }
 {
     let mut last = [0u32; 256];
+    // Stays: tried `zip` with `iter_mut`, of whose writes the library tells no element.
     for (p, s) in cells.iter().enumerate() {
         let b = s.write() as usize;
         previous[p] = last[b];
@@ -33,20 +43,16 @@ pub(crate) fn link_places<S: Symbol>(cells: &[S], previous: &mut [u32]) -> [u32;
     last
 }
 
-// Counts for each place the later ones that hold the same byte, and tells how often each byte
-// occurs.
-pub(crate) fn count_later<S: Symbol>(cells: &[S], after: &mut [u16]) -> [u32; 256]
-    requires { (length cells.now ≤ 65536) × (length cells.now ≤ length after.old) }
-    ensures ranked { Ranked (map S.byte cells.now) after.new 0 }
-    ensures counted { Counted result (map S.byte cells.now) }
+// Counts for each place the later ones that hold the same byte.
+pub(crate) fn count_later<S: Symbol>(tally: &Tally<S>, after: &mut [u16])
+    requires { length tally.now.cells.now ≤ length after.old }
+    ensures { Ranked (map S.byte tally.now.cells.now) after.new (length (map S.byte tally.now.cells.now)) }
 {
-    let mut counts = [0u32; 256];
-    let mut p = cells.len();
-    while p > 0 {
-        p -= 1;
-        let b = cells[p].write() as usize;
-        after[p] = counts[b] as u16;
-        counts[b] += 1;
+    let mut left = tally.counts;
+    // Stays: tried `zip` with `iter_mut`, of whose writes the library tells no element.
+    for (p, s) in tally.cells.iter().enumerate() {
+        let b = s.write() as usize;
+        left[b] -= 1;
+        after[p] = left[b] as u16;
     }
-    counts
 }

@@ -15,22 +15,14 @@ use notation::Symbol;
 fn has_transposed<S: Symbol>(s: S, by: i32) -> bool
     ensures { result ≡ reaches S.kind by (S.byte s) }
 {
-    match s.transposed(by) {
-        Some(_) => true,
-        None => false,
-    }
+    s.transposed(by).is_some()
 }
 
 // How many notes there are before the first that has no transposed one.
 fn transposable_front<S: Symbol>(query: &[S], by: i32) -> usize
     ensures { result ≡ prefix_len (reaches S.kind by) (map S.byte query.now) }
 {
-    for (i, s) in query.iter().enumerate() {
-        if !has_transposed(*s, by) {
-            return i;
-        }
-    }
-    query.len()
+    query.iter().take_while(|s| has_transposed(**s, by)).count()
 }
 
 // Writes the transposed notes, of which there is one for each, into the front of a list.
@@ -40,6 +32,7 @@ fn put_transposed<S: Symbol>(query: &[S], by: i32, out: &mut [S])
     ensures moved { Transposed S.kind by (map S.byte query.now) (map S.byte (take (length query.now) out.new)) }
     ensures behind { drop (length query.now) out.new ≡ drop (length query.now) out.old }
 {
+    // Stays: tried `zip` with `iter_mut`, of whose writes the library tells no element.
     for (i, s) in query.iter().enumerate() {
         if let Some(moved) = s.transposed(by) {
             out[i] = moved;

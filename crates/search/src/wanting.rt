@@ -12,6 +12,7 @@ pub(crate) fn want_bytes<S: Symbol>(query: &[S], by: i32, want: &mut [u8]) -> bo
     ensures each { result ≡ true → (k : ℕ) → k < length query.now → S.kind.interval (slice_index_or (map S.byte query.now) k rest) (slice_index want.new k) ≡ Some by }
     ensures lacking { result ≡ false → (k : ℕ) × (k < length query.now) × ((b : ℕ) → S.kind.interval (slice_index_or (map S.byte query.now) k rest) b ≢ Some by) }
 {
+    // Stays: tried `zip` with `iter_mut`, of whose writes the library tells no element.
     for (k, s) in query.iter().enumerate() {
         let Some(moved) = s.transposed(by) else {
             return false;

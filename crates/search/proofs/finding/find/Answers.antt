@@ -27,9 +27,7 @@ answer-requires g c =
       some_note = h.0.0.some;
       few_notes = h.0.0.few;
       room_list = h.0.1;
-      room_prices = omega (arith, size, h.1);
-      room_window = omega (arith, size, h.2);
-      room_steps = omega (arith, size, h.3);
+      room = record { prices = omega (arith, size, h.1); steps = omega (arith, size, h.3); window = omega (arith, size, h.2) };
     }
 
 pub returns : goal.returns

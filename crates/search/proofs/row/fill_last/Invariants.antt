@@ -3,11 +3,9 @@ use Rattle.notation.specs.Kind.{rest}
 use Rattle.search.proofs.RowFilling.{Emptied}
 use Rattle.search.proofs.row.fill_last.Given as goal
 
-abbrev pub invariant-loop-mark : goal.invariant-loop-mark
-invariant-loop-mark g l =
-    (l.mark ≤ length (map g.S.Symbol.byte l.ground.cells.now))
-    × (0 < l.mark → get_or (map g.S.Symbol.byte l.ground.cells.now) (l.mark - 1) rest ≡ l.row.byte)
-    × Emptied g.P.Price.pricing g.P.Price.meaning (map g.S.Symbol.byte l.ground.cells.now) l.row.byte l.row.offset l.prices l.mark
-
-abbrev pub decreases-loop-mark : goal.decreases-loop-mark
-decreases-loop-mark g l = l.mark
+abbrev pub invariant-loop-place : goal.invariant-loop-place
+invariant-loop-place g l =
+    (l.place-iterator.previous.now ≡ l.ground.previous.now)
+    × (l.place-iterator.mark ≤ length (map g.S.Symbol.byte l.ground.tally.cells.now))
+    × (0 < l.place-iterator.mark → get_or (map g.S.Symbol.byte l.ground.tally.cells.now) (l.place-iterator.mark - 1) rest ≡ l.row.byte)
+    × Emptied g.P.Price.pricing g.P.Price.meaning (map g.S.Symbol.byte l.ground.tally.cells.now) l.row.byte l.row.offset l.prices l.place-iterator.mark

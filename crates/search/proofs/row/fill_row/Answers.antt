@@ -1,114 +1,92 @@
-use Rattle.std.proofs.Common.{◌≡◌, ◌+◌, ◌-◌, ◌<◌, ◌≤◌, map, length, get_or, set, sym, ap, ◌∙◌, subst, div-le_self, arith}
+use Rattle.std.proofs.Common.{◌≡◌, ◌+◌, ◌-◌, ◌/◌, ◌≤◌, map, length, get_or, set, sym, ap, ◌∙◌, subst, arith}
 use Rattle.std.proofs.lemmas.List.{length-map}
 use Rattle.search.specs.Tables.{Mark}
 use Rattle.search.specs.Rows.{Fed, Chosen}
-use Rattle.search.proofs.Valuing.{ranked_at, rank_in}
+use Rattle.search.proofs.Valuing.{rank_in, turn}
 use Rattle.search.proofs.RowFilling.{Filling, Filled, filling_none, filling_more, next_same}
 use Rattle.search.proofs.row.fill_row.Goals as goal
 
-pub loop-mark-init : goal.loop-mark-init
-loop-mark-init g c =
-    let xs = c.args.ground.cells.now in
-    filling_none g.P.Price.pricing g.met.P.Price.lawful g.P.Price.meaning (map g.S.Symbol.byte xs) c.args.ground.tracks c.requires.surveyed.one c.args.row.byte c.args.row.offset c.args.next.byte c.args.next.offset c.args.limit c.requires.rows_apart c.args.prices.now c.args.steps.now
-    c.new-window.result c.args.row.start c.args.next.start (length c.args.entries.now) (omega (arith, c.requires.surveyed.few, length-map xs g.S.Symbol.byte)) c.requires.marked c.requires.next_marked c.requires.room_entries c.new-window.ensures
-
-pub overflow_add-from : goal.overflow_add-from
-overflow_add-from g c = omega (arith, c.loop-mark.invariant.mark_low, c.requires.surveyed.few, length-map c.args.ground.cells.now g.S.Symbol.byte, div-le_self (c.loop-mark.mark - 1) c.args.ground.tracks)
-
-pub take_in-ahead-requires : goal.take_in-ahead-requires
-take_in-ahead-requires g c =
-    let n = length-map c.args.ground.cells.now g.S.Symbol.byte in record { surveyed = c.requires.surveyed; room = omega (arith, c.requires.rows_apart, c.requires.room_prices, c.loop-mark.auto.prices); from_small = omega (arith, c.loop-mark.invariant.mark_low, c.requires.surveyed.few, n, div-le_self (c.loop-mark.mark - 1) c.args.ground.tracks); start_within = omega (arith, c.loop-mark.invariant.ahead_low, n); start_marked = c.loop-mark.invariant.ahead_byte }
-
-pub price_at-on-requires : goal.price_at-on-requires
-price_at-on-requires g c = record { surveyed = c.requires.surveyed; room = omega (arith, c.requires.rows_apart, c.requires.room_prices, c.loop-mark.auto.prices) }
-
-pub overflow_add-place : goal.overflow_add-place
-overflow_add-place g c = omega (arith, c.loop-mark.invariant.mark_low, c.requires.surveyed.few, c.requires.surveyed.narrow, length-map c.args.ground.cells.now g.S.Symbol.byte)
-
-pub overflow_cast-from : goal.overflow_cast-from
-overflow_cast-from g c = omega (arith, c.loop-mark.invariant.mark_low, c.requires.surveyed.few, length-map c.args.ground.cells.now g.S.Symbol.byte, div-le_self (c.loop-mark.mark - 1) c.args.ground.tracks)
-
-pub offset_bounds-ground-place : goal.offset_bounds-ground-place
-offset_bounds-ground-place g c = omega (arith, c.loop-mark.invariant.mark_low, c.requires.surveyed.few, length-map c.args.ground.cells.now g.S.Symbol.byte)
-
-pub bounds-ground-place : goal.bounds-ground-place
-bounds-ground-place g c = omega (arith, c.loop-mark.invariant.mark_low, c.requires.surveyed.long_after, length-map c.args.ground.cells.now g.S.Symbol.byte)
-
-pub overflow_add-at : goal.overflow_add-at
-overflow_add-at g c =
-    let n = length-map c.args.ground.cells.now g.S.Symbol.byte in
-    omega (arith, c.well_formed, rank_in g.S.Symbol.byte c.args.ground c.requires.surveyed c.args.row.byte c.args.row.offset (length c.args.steps.now) (c.loop-mark.mark - 1) c.requires.room_steps (omega (arith, c.loop-mark.invariant.mark_low)) (c.loop-mark.invariant.mark_byte c.loop-mark-test.true))
+pub loop-place-init : goal.loop-place-init
+loop-place-init g c =
+    let x = c.args.ground.now in
+    let bytes = map g.S.Symbol.byte x.tally.cells.now in
+    let b = c.args.row.byte in
+    let at : c.into_iter-place-iterator.result.mark ≡ get_or x.last.now b 0 = cc in (
+      cc,
+      filling_none g.P.Price.pricing g.met.P.Price.lawful g.P.Price.meaning bytes x.tracks x.some_track b c.args.row.offset c.args.next.byte c.args.next.offset c.args.limit c.requires.rows_apart c.args.sheets.now.prices.now c.args.sheets.now.steps.now
+          c.new-window.result c.into_iter-place-iterator.result.mark (get_or x.last.now c.args.next.byte 0) (length c.args.sheets.now.window.now) (omega (arith, x.tally.few, length-map x.tally.cells.now g.S.Symbol.byte)) (subst (Mark bytes b (length bytes)) (sym at) (x.marks b (omega arith))) (x.marks c.args.next.byte (omega arith)) (omega (arith, c.requires.rows_apart, c.requires.room.window)) c.new-window.ensures,
+    )
 
 pub store-requires : goal.store-requires
 store-requires g c =
-    let n = length-map c.args.ground.cells.now g.S.Symbol.byte in
-    let kept : length c.loop-mark.prices ≡ length c.args.prices.now = c.loop-mark.auto.prices in
-    rank_in g.S.Symbol.byte c.args.ground c.requires.surveyed c.args.row.byte c.args.row.offset (length c.loop-mark.prices) (c.loop-mark.mark - 1) (omega (arith, c.requires.room_prices)) (omega (arith, c.loop-mark.invariant.mark_low)) (c.loop-mark.invariant.mark_byte c.loop-mark-test.true)
+    let x = c.args.ground.now in
+    let bytes = map g.S.Symbol.byte x.tally.cells.now in
+    let b = c.args.row.byte in
+    let q = c.in-Some.place in
+    let w = c.next.new.self.mark in
+    let f = c.loop-place.invariant.1 in
+    let s = c.in-Some.ensures.steps in
+    let t = turn bytes x.previous.now x.linked b c.loop-place.place-iterator.mark q w f.mark_low f.mark_byte s.0 (s.1 ∙ ap (λ z. get_or z q 0) c.loop-place.invariant.0) in
+    rank_in bytes x.after.now x.ranked b c.args.row.offset (length c.loop-place.prices) q (omega (arith, c.requires.room.prices, c.loop-place.auto.prices)) t.inside t.is
 
-pub store-requires-in-loop-mark : goal.store-requires-in-loop-mark
-store-requires-in-loop-mark g c =
-    let n = length-map c.args.ground.cells.now g.S.Symbol.byte in
-    let kept : length c.loop-mark.steps ≡ length c.args.steps.now = c.loop-mark.auto.steps in
-    rank_in g.S.Symbol.byte c.args.ground c.requires.surveyed c.args.row.byte c.args.row.offset (length c.loop-mark.steps) (c.loop-mark.mark - 1) (omega (arith, c.requires.room_steps)) (omega (arith, c.loop-mark.invariant.mark_low)) (c.loop-mark.invariant.mark_byte c.loop-mark-test.true)
+pub bounds-steps-at : goal.bounds-steps-at
+bounds-steps-at g c =
+    let x = c.args.ground.now in
+    let bytes = map g.S.Symbol.byte x.tally.cells.now in
+    let b = c.args.row.byte in
+    let q = c.in-Some.place in
+    let w = c.next.new.self.mark in
+    let f = c.loop-place.invariant.1 in
+    let s = c.in-Some.ensures.steps in
+    let t = turn bytes x.previous.now x.linked b c.loop-place.place-iterator.mark q w f.mark_low f.mark_byte s.0 (s.1 ∙ ap (λ z. get_or z q 0) c.loop-place.invariant.0) in
+    rank_in bytes x.after.now x.ranked b c.args.row.offset (length c.loop-place.steps) q (omega (arith, c.requires.room.steps, c.loop-place.auto.steps)) t.inside t.is
 
-pub offset_bounds-ground-place-in-loop-mark : goal.offset_bounds-ground-place-in-loop-mark
-offset_bounds-ground-place-in-loop-mark g c = omega (arith, c.loop-mark.invariant.mark_low, c.requires.surveyed.few, length-map c.args.ground.cells.now g.S.Symbol.byte)
-
-pub bounds-ground-place-in-loop-mark : goal.bounds-ground-place-in-loop-mark
-bounds-ground-place-in-loop-mark g c = omega (arith, c.loop-mark.invariant.mark_low, c.requires.surveyed.long_previous, length-map c.args.ground.cells.now g.S.Symbol.byte)
-
-pub loop-mark-smaller : goal.loop-mark-smaller
-loop-mark-smaller g c =
-    let k = c.requires.surveyed.linked (c.loop-mark.mark - 1) (omega (arith, c.loop-mark.invariant.mark_low, length-map c.args.ground.cells.now g.S.Symbol.byte)) in
-    omega (arith, k.low)
-
-pub loop-mark-preserved : goal.loop-mark-preserved
-loop-mark-preserved g c =
+pub loop-place-preserved : goal.loop-place-preserved
+loop-place-preserved g c =
     let m = g.P.Price.pricing in
     let meaning = g.P.Price.meaning in
-    let byte = g.S.Symbol.byte in
-    let xs = c.args.ground.cells.now in
-    let bytes = map byte xs in
-    let tracks = c.args.ground.tracks in
+    let laws = g.met.P.Price.lawful in
+    let x = c.args.ground.now in
+    let bytes = map g.S.Symbol.byte x.tally.cells.now in
+    let tracks = x.tracks in
+    let one = x.some_track in
     let b = c.args.row.byte in
     let offset = c.args.row.offset in
     let b' = c.args.next.byte in
     let offset' = c.args.next.offset in
     let limit = c.args.limit in
-    let f = c.loop-mark.invariant in
-    let prices = c.loop-mark.prices in
-    let steps = c.loop-mark.steps in
-    let n = length-map xs byte in
-    let one = c.requires.surveyed.one in
-    let q = c.loop-mark.mark - 1 in
-    let within : q < length bytes = omega (arith, f.mark_low) in
-    let inside : q < length xs = omega (arith, f.mark_low) in
-    let is = f.mark_byte c.loop-mark-test.true in
-    let next-mark : c.loop-mark.mark ≡ q + 1 = omega arith in
-    let kept : length prices ≡ length c.args.prices.now = c.loop-mark.auto.prices in
-    let kept-steps : length steps ≡ length c.args.steps.now = c.loop-mark.auto.steps in
-    let w = get_or c.args.ground.previous.now q 0 in
-    let mark : Mark bytes b q w = subst (λ z. Mark bytes z q w) is (c.requires.surveyed.linked q inside) in
-    let same = next_same m g.met.P.Price.lawful meaning bytes tracks one b offset b' offset' limit c.requires.rows_apart c.args.prices.now c.args.steps.now prices f.same_prices in
-    let out = c.take_in-ahead.ensures.fed f.history (subst (λ r. Fed m meaning bytes tracks b' r c.loop-mark.window c.loop-mark.ahead f.history) (sym same) f.fed) (f.position c.loop-mark-test.true) in
+    let prices₀ = c.args.sheets.now.prices.now in
+    let steps₀ = c.args.sheets.now.steps.now in
+    let prices = c.loop-place.prices in
+    let steps = c.loop-place.steps in
+    let q = c.in-Some.place in
+    let w = c.next.new.self.mark in
+    let f = c.loop-place.invariant.1 in
+    let s = c.in-Some.ensures.steps in
+    let t = turn bytes x.previous.now x.linked b c.loop-place.place-iterator.mark q w f.mark_low f.mark_byte s.0 (s.1 ∙ ap (λ z. get_or z q 0) c.loop-place.invariant.0) in
+    let same = next_same m laws meaning bytes tracks one b offset b' offset' limit c.requires.rows_apart prices₀ steps₀ prices f.same_prices in
+    let from-is : (c.loop-place.place-iterator.mark - 1) / tracks + 1 ≡ q / tracks + 1 = ap (λ z. z / tracks + 1) (let e : c.loop-place.place-iterator.mark - 1 ≡ q = omega (arith, s.0) in e) in
+    let out = c.take_in-ahead.ensures.fed f.history (subst (λ r. Fed m meaning bytes tracks b' r c.loop-place.window c.loop-place.ahead f.history) (sym same) f.fed) (omega (arith, f.position (omega (arith, s.0)), from-is)) in
     let fed = subst (λ r. Fed m meaning bytes tracks b' r c.take_in-ahead.new.window c.take_in-ahead.result out.0) same out.1 in
     let over = c.hand_over-over.ensures out.0 fed.holds out.2.position in
-    let x = c.choose-price.result.0 in
-    let s = c.choose-price.result.1 in
-    let ch = subst (λ z. Chosen m meaning z c.hand_over-over.result x s) (c.price_at-on.ensures ∙ (λ j. same j (q + tracks))) c.choose-price.ensures in
-    let old = subst (Filled m meaning bytes tracks b offset b' offset' limit c.args.prices.now c.args.steps.now prices steps) next-mark f.filled in
-    let rank = ranked_at byte c.args.ground c.requires.surveyed b offset (length prices) q (omega (arith, c.requires.room_prices)) inside is in
-    let low : c.take_in-ahead.result ≤ length bytes = omega (arith, c.take_in-ahead.ensures.low, f.ahead_low) in
-    subst (λ i. i)
-    (λ j. Filling m meaning bytes tracks b offset b' offset' limit c.args.prices.now c.args.steps.now (sym (c.store.ensures ∙ ap (λ z. set prices (offset + z) x) rank) j) (sym (c.store-in-loop-mark.ensures ∙ ap (λ z. set steps (offset + z) s) rank) j) c.hand_over-over.new.window w c.take_in-ahead.result)
-    (filling_more m g.met.P.Price.lawful meaning bytes tracks one b offset b' offset' limit c.requires.rows_apart c.args.prices.now c.args.steps.now
-    prices steps q within is (omega (arith, c.requires.room_prices)) (omega (arith, c.requires.room_steps)) x s
-    c.take_in-ahead.new.window c.hand_over-over.new.window c.take_in-ahead.result (λ l. (c.take_in-ahead.ensures.holds l).1) out.0 fed (out.2.limit ∙ f.limit_is)
-    w mark c.hand_over-over.result over.0 over.1 ch low (λ l. (c.take_in-ahead.ensures.holds l).0) f.same_prices f.same_steps old)
+    let y = c.choose-price.result.0 in
+    let u = c.choose-price.result.1 in
+    let ch = subst (λ z. Chosen m meaning z c.hand_over-over.result y u) (c.price_at-on.ensures ∙ (λ j. same j (q + tracks))) c.choose-price.ensures in
+    let old = subst (Filled m meaning bytes tracks b offset b' offset' limit prices₀ steps₀ prices steps) s.0 f.filled in
+    let rank = x.ranked q t.inside in
+    let low : c.take_in-ahead.result ≤ length bytes = omega (arith, c.take_in-ahead.ensures.low, f.ahead_low) in (
+      s.2 ∙ c.loop-place.invariant.0,
+      subst (λ i. i)
+          (λ j. Filling m meaning bytes tracks b offset b' offset' limit prices₀ steps₀ (sym (c.store.ensures ∙ ap (λ z. set prices (offset + z) y) rank) j) (sym (ap (λ z. set steps (offset + z) u) rank) j) c.hand_over-over.new.window w c.take_in-ahead.result)
+          (filling_more m laws meaning bytes tracks one b offset b' offset' limit c.requires.rows_apart prices₀ steps₀
+          prices steps q t.inside t.is (omega (arith, c.requires.room.prices, c.loop-place.auto.prices)) (omega (arith, c.requires.room.steps, c.loop-place.auto.steps)) y u
+          c.take_in-ahead.new.window c.hand_over-over.new.window c.take_in-ahead.result (λ l. (c.take_in-ahead.ensures.holds l).1) out.0 fed (out.2.limit ∙ f.limit_is)
+          w t.mark c.hand_over-over.result over.0 over.1 ch low (λ l. (c.take_in-ahead.ensures.holds l).0) f.same_prices f.same_steps old),
+    )
 
-pub returns : goal.returns
-returns g c =
-    let f = c.loop-mark.invariant in
-    let done : c.loop-mark.mark ≡ 0 = omega arith in
-    let all = subst (λ z. Filled g.P.Price.pricing g.P.Price.meaning (map g.S.Symbol.byte c.args.ground.cells.now) c.args.ground.tracks c.args.row.byte c.args.row.offset c.args.next.byte c.args.next.offset c.args.limit c.args.prices.now c.args.steps.now c.loop-mark.prices c.loop-mark.steps z) done f.filled in
-    record { prices_before = f.same_prices; steps_before = f.same_steps; right = all.right }
+pub returns-clause-right : goal.returns-clause-right
+returns-clause-right g c =
+    let x = c.args.ground.now in
+    let f = c.loop-place.invariant.1 in
+    let all = subst (Filled g.P.Price.pricing g.P.Price.meaning (map g.S.Symbol.byte x.tally.cells.now) x.tracks c.args.row.byte c.args.row.offset c.args.next.byte c.args.next.offset c.args.limit c.args.sheets.now.prices.now c.args.sheets.now.steps.now c.loop-place.prices c.loop-place.steps) c.in-None.ensures.steps f.filled in
+    all.right

@@ -8,27 +8,22 @@ use Rattle.search.proofs.Feeding.{fed_lower, fed_by, fed_skip}
 use Rattle.search.proofs.row.take_in.Goals as goal
 use Rattle.search.proofs.row.take_in.Goals.{in-Some, in_default}
 
-pub loop-ahead-smaller : goal.loop-ahead-smaller
-loop-ahead-smaller g c =
-    let m = c.requires.surveyed.linked (c.loop-ahead.ahead - 1) (omega (arith, c.loop-ahead.invariant.0, c.requires.start_within)) in
-    omega (arith, m.low)
-
 pub loop-ahead-preserved : goal.loop-ahead-preserved
 loop-ahead-preserved g c =
     let byte = g.S.Symbol.byte in
-    let xs = c.args.ground.cells.now in
+    let xs = c.args.ground.now.tally.cells.now in
     let bytes = map byte xs in
     let b = c.args.row.byte in
-    let tracks = c.args.ground.tracks in
+    let tracks = c.args.ground.now.tracks in
     let prices = c.args.prices.now in
     let row = value bytes b c.args.row.offset prices in
     let matched = value_byte bytes b c.args.row.offset prices in
     let q = c.loop-ahead.ahead - 1 in
     let n = length-map xs byte in
-    let within : q < length xs = omega (arith, c.loop-ahead.invariant.0, c.requires.start_within) in
-    let w = get_or c.args.ground.previous.now q 0 in
-    let mark : Mark bytes b q w = subst (λ z. Mark bytes z q w) (c.loop-ahead.invariant.1 c.loop-ahead-test.true) (c.requires.surveyed.linked q within) in
-    let one = c.requires.surveyed.one in
+    let within : q < length bytes = omega (arith, c.loop-ahead.invariant.0, c.requires.start_within) in
+    let w = get_or c.args.ground.now.previous.now q 0 in
+    let mark : Mark bytes b q w = subst (λ z. Mark bytes z q w) (c.loop-ahead.invariant.1 c.loop-ahead-test.true) (c.args.ground.now.linked q within) in
+    let one = c.args.ground.now.some_track in
     let next : c.loop-ahead.ahead ≡ q + 1 = omega arith in (
       omega (arith, mark.low, c.loop-ahead.invariant.0),
       mark.holds,

@@ -1,7 +1,6 @@
-use Rattle.std.proofs.Common.{◌≡◌, ◌+◌, map, length, get_or, sym, refl, ◌∙◌, subst, arith}
+use Rattle.std.proofs.Common.{◌≡◌, ◌+◌, map, length, get_or, sym, refl, ◌∙◌, arith}
 use Rattle.std.proofs.lemmas.List.{length-set}
 use Rattle.notation.specs.Kind.{rest}
-use Rattle.search.specs.Tables.{Linked, Marks}
 use Rattle.search.proofs.Refusing.{byte_at}
 use Rattle.search.proofs.Linking.{marks_none, marks_more, linked_none, linked_more}
 use Rattle.search.proofs.table.link_places.Goals as goal
@@ -23,9 +22,3 @@ loop-p-preserved g c =
       marks_more bytes c.loop-p.previous c.loop-p.last p b holds c.write-b.type_inv old.0 old.1,
       linked_more bytes c.loop-p.previous c.loop-p.last p b holds c.write-b.type_inv (omega (arith, c.requires.1)) old.1 old.2,
     )
-
-pub returns : goal.returns
-returns g c =
-    let bytes = map g.S.Symbol.byte c.args.cells.now in
-    let done : c.loop-p.p ≡ length c.args.cells.now = omega arith in
-    record { linked = subst (Linked bytes c.loop-p.previous) done c.loop-p.invariant.2; marks = subst (Marks bytes c.loop-p.last) done c.loop-p.invariant.1 }
