@@ -1,10 +1,10 @@
 -- Lists beyond 64 and sheets beyond 64 times 65,536 change no refusal.
-use Rattle.std.proofs.Common.{◌≡◌, ℕ, ◌+◌, ◌*◌, ◌≤◌, min, Bool, true, false, ◌&&◌, leb, List, [], ◌∷◌, length, ℤ, Some, None, Option, sym, refl, ap, ◌∙◌, arith}
+use Rattle.std.proofs.Common.{◌≡◌, ℕ, ◌+◌, ◌*◌, ◌≤◌, min, Bool, ◌&&◌, leb, List, [], ◌∷◌, length, ℤ, Some, None, Option, refl, ap, ◌∙◌, arith}
 use Rattle.std.specs.List.{prefix_len, AllByRecursion}
 use Rattle.std.proofs.lemmas.Nat.{mul-le}
 use Rattle.std.proofs.lemmas.List.Sums.{count_by-le-length}
 use Rattle.std.proofs.ByRecursion.{sum_by_le}
-use Rattle.std.proofs.lemmas.Bool.{le-leb, leb-true, cond_both}
+use Rattle.std.proofs.lemmas.Bool.{cond_both}
 use Rattle.notation.specs.Kind.{Kind}
 use Rattle.notation.specs.declared.mode.Mode.{Mode}
 use Rattle.book.specs.Refusals.{refusal, unless, then}
@@ -16,16 +16,9 @@ use Rattle.search.specs.Questions.{question_refusal}
 use Rattle.search.specs.Workspace.{symbols, admits, matching, triples, candidate_size, greatest, workspace, workspace_of}
 use Rattle.search.proofs.Refusing.{sound, listed}
 
--- two tests that imply each other are the same
-same_test : (x y : Bool) → (x ≡ true → y ≡ true) → (y ≡ true → x ≡ true) → x ≡ y
-same_test true true f g = refl
-same_test true false f g = sym (f refl)
-same_test false true f g = g refl
-same_test false false f g = refl
-
 -- a cap at least as high as what is wanted is as good as none
 pub cap_harmless : (want room cap : ℕ) → want ≤ cap → leb want (min room cap) ≡ leb want room
-cap_harmless want room cap enough = same_test _ _ (λ e. le-leb want room (omega (arith, leb-true want (min room cap) e))) (λ e. le-leb want (min room cap) (omega (arith, leb-true want room e)))
+cap_harmless want room cap enough = grind arith
 
 all_le : (f : ℕ → ℕ) (m : ℕ) → ((x : ℕ) → f x ≤ m) → (xs : List ℕ) → AllByRecursion (λ x. f x ≤ m) xs
 all_le f m small [] = tt

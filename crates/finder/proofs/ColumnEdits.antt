@@ -1,5 +1,6 @@
 -- What changes of memory make of the columns in it.
 use Rattle.std.proofs.Common.{◌≡◌, ℕ, zero, suc, ◌+◌, ◌-◌, ◌*◌, ◌<◌, ◌≤◌, true, List, [], ◌∷◌, ◌++◌, map, length, get_or, take, drop, set, sym, refl, ap, ◌∙◌, suc-mul, mul_comm, arith}
+use Rattle.std.proofs.Math.Seq.{take-set-lt}
 use Rattle.std.proofs.lemmas.Nat.{mul-le, mul-add-lt}
 use Rattle.std.proofs.lemmas.List.{take-take, take_at, drop_at, drop-take, drop-drop, take-set-le, drop-set-lt, drop-set-add, length-take, length-map, take-map, map-append, map-set, get_or-map}
 use Rattle.std.proofs.lemmas.Bool.{and_from, le-leb}
@@ -35,18 +36,12 @@ columns_kept t n zero cells l = refl
 columns_kept t zero (suc kept) cells l = absurd (omega arith)
 columns_kept t (suc n) (suc kept) cells l = ap (λ x. take t cells ∷ x) (columns_kept t n kept (drop t cells) (omega arith))
 
-take_set_in : {X : Type 0} (n i : ℕ) (xs : List X) (x : X) → take n (set xs i x) ≡ set (take n xs) i x
-take_set_in zero i xs x = refl
-take_set_in (suc n) i [] x = refl
-take_set_in (suc n) zero (y ∷ ys) x = refl
-take_set_in (suc n) (suc i) (y ∷ ys) x = ap (λ z. y ∷ z) (take_set_in n i ys x)
-
 pub columns_set : {X : Type 0} (t n j i : ℕ) (cells : List X) (x : X) → j < n → i < t → columns_of t n (set cells (j * t + i) x) ≡ set (columns_of t n cells) j (set (get_or (columns_of t n cells) j []) i x)
 columns_set t zero j i cells x l h = absurd (omega arith)
 columns_set t (suc n) zero i cells x l h =
     let e : 0 * t + i ≡ i = omega arith in
     ap (λ k. columns_of t (suc n) (set cells k x)) e
-    ∙ (λ k. take_set_in t i cells x k ∷ columns_of t n (drop-set-lt t cells i x h k))
+    ∙ (λ k. take-set-lt t cells i x h k ∷ columns_of t n (drop-set-lt t cells i x h k))
 columns_set t (suc n) (suc j) i cells x l h =
     let e : suc j * t + i ≡ t + (j * t + i) = omega (arith, suc-mul j t) in
     ap (λ k. columns_of t (suc n) (set cells k x)) e

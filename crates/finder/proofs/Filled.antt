@@ -1,10 +1,10 @@
 -- A score filled from a book, and a score written as one.
-use Rattle.std.proofs.Common.{◌≡◌, ℕ, zero, suc, ◌+◌, ◌-◌, ◌*◌, ◌/◌, ◌%◌, ◌<◌, ◌≤◌, Bool, true, false, T, eqb, leb, List, [], ◌∷◌, ◌++◌, map, length, get_or, take, drop, set, Some, None, MatchBool, sym, refl, ap, ◌∙◌, arith}
+use Rattle.std.proofs.Common.{◌≡◌, ℕ, zero, suc, ◌+◌, ◌-◌, ◌*◌, ◌/◌, ◌%◌, ◌<◌, ◌≤◌, true, false, T, eqb, leb, List, [], ◌∷◌, ◌++◌, map, length, get_or, take, set, None, ap, ◌∙◌, arith}
 use lib.Seq.{paste}
 use Rattle.std.proofs.lemmas.Nat.{div-add-mod', div_below, mod_below, div-mul-add, mod-mul-add}
 use Rattle.std.proofs.lemmas.List.Edits.{paste_more, paste_all}
-use Rattle.std.proofs.lemmas.List.{length-map, length-take-le, map-set}
-use Rattle.std.proofs.lemmas.Bool.{cond-true, cond-false, eq-eqb, ne_eqb, le-leb, lt-leb, and_from, both_ways}
+use Rattle.std.proofs.lemmas.List.{append-nil, drop_all, length-map, length-take-le, map-set}
+use Rattle.std.proofs.lemmas.Bool.{cond-true, eq-eqb, le-leb, and_from, both_ways}
 use Rattle.std.specs.List.{AllByRecursion}
 use Rattle.notation.specs.Kind.{Kind, readable}
 use Rattle.book.specs.Books.{book_refusal, held}
@@ -42,30 +42,17 @@ module _ {S : Type 0} (byte : S → ℕ) (g : Grid) (whole : length g.cells ≡ 
   symbol_missing f = both_ways _ f (place_there g.tracks g.columns i some_track l)
 
 -- all symbols copied
-pub symbols_copied : {S : Type 0} (byte : S → ℕ) (g : Grid) → length g.cells ≡ g.columns * g.tracks → (first memory : List S) (i count : ℕ) → i ≡ count → count ≡ g.columns * g.tracks → map byte memory ≡ paste (map byte first) 0 g.cells i → map byte memory ≡ g.cells ++ drop count (map byte first)
-symbols_copied byte g whole first memory i count e f inv =
+pub symbols_copied : {S : Type 0} (byte : S → ℕ) (g : Grid) → length g.cells ≡ g.columns * g.tracks → (first memory : List S) (i : ℕ) → i ≡ length first → length first ≡ g.columns * g.tracks → map byte memory ≡ paste (map byte first) 0 g.cells i → map byte memory ≡ g.cells
+symbols_copied byte g whole first memory i all as_many inv =
     let n : i ≡ length g.cells = omega arith in
-    let z : 0 + i ≡ count = omega arith in
-    inv ∙ paste_all (map byte first) 0 g.cells i n ∙ ap (λ m. g.cells ++ drop m (map byte first)) z
+    inv ∙ paste_all (map byte first) 0 g.cells i n ∙ ap (λ xs. g.cells ++ xs) (drop_all (0 + i) (map byte first) (omega (arith, length-map first byte))) ∙ append-nil g.cells
 
 -- the columns of memory into which a book was copied
 pub book_copied : {S : Type 0} (byte : S → ℕ) (g : Grid) (t n : ℕ) (cells : List S) (rest : List ℕ) → length g.cells ≡ g.columns * g.tracks → t ≡ g.tracks → n ≡ g.columns → map byte cells ≡ g.cells ++ rest → columns_of t n (map byte cells) ≡ grid_columns g
 book_copied byte g t n cells rest whole e f is = (λ k. columns_of (e k) (f k) (is k)) ∙ columns_before g.tracks g.columns g.cells rest whole
 
--- by which rule a filling is refused
+-- a filling is granted
 module _ (k : Kind) (t cap : ℕ) (input : List ℕ) (none : book_refusal k input ≡ None) where
-  pub other_tracks : (told : ℕ) → told ≡ (held input).tracks → (told ≡ t → ⊥) → fill_refusal k t cap input ≡ Some (refusal 13 told Score)
-  other_tracks told e ne =
-      (λ j. then (none j) (unless (eqb (held input).tracks t) (refusal 13 (held input).tracks Score) (unless (leb (held input).columns cap) (refusal 14 cap Score) None)))
-      ∙ cond-false _ _ _ (ne_eqb (held input).tracks t (λ f. ne (e ∙ f)))
-      ∙ ap (λ n. Some (refusal 13 n Score)) (sym e)
-
-  pub no_room : (held input).tracks ≡ t → cap < (held input).columns → fill_refusal k t cap input ≡ Some (refusal 14 cap Score)
-  no_room e l =
-      (λ j. then (none j) (unless (eqb (held input).tracks t) (refusal 13 (held input).tracks Score) (unless (leb (held input).columns cap) (refusal 14 cap Score) None)))
-      ∙ cond-true _ _ _ (eq-eqb (held input).tracks t e)
-      ∙ cond-false _ _ _ (lt-leb (held input).columns cap l)
-
   pub fill_granted : (held input).tracks ≡ t → (held input).columns ≤ cap → fill_refusal k t cap input ≡ None
   fill_granted e l =
       (λ j. then (none j) (unless (eqb (held input).tracks t) (refusal 13 (held input).tracks Score) (unless (leb (held input).columns cap) (refusal 14 cap Score) None)))
@@ -79,10 +66,6 @@ in_shape t n len t1 t16 few e =
     let q : len / t ≡ n = ap (λ m. m / t) (e ∙ z) ∙ div-mul-add n t 0 (omega arith) in
     let r : len % t ≡ 0 = ap (λ m. m % t) (e ∙ z) ∙ mod-mul-add n t 0 (omega arith) in
     (and_from _ _ (and_from _ _ (and_from _ _ (le-leb 1 t t1) (le-leb t 16 t16)) (eq-eqb (len % t) 0 r)) (le-leb (len / t) 4096 (omega arith)), q)
-
-pub when_true : (b : Bool) (P Q : Type 0) → b ≡ true → MatchBool b P Q → P
-when_true true P Q e h = h
-when_true false P Q e h = absurd (both_ways false refl e)
 
 all_bytes : {S : Type 0} (byte : S → ℕ) (P : ℕ → Type 0) → ((s : S) → P (byte s)) → (n : ℕ) (xs : List S) → AllByRecursion P (take n (map byte xs))
 all_bytes byte P law zero xs = tt

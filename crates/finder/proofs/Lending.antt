@@ -1,9 +1,8 @@
 -- Lists and sheets that are made for a call, and what comes of it.
-use Rattle.std.proofs.Common.{◌≡◌, ℕ, zero, suc, ◌*◌, ◌≤◌, min, List, map, length, take, drop, replicate, ℤ, vec_items, sym, ap, ◌∙◌, subst, suc-mul, arith}
-use lib.LanesLaws.{map-replicate}
+use Rattle.std.proofs.Common.{◌≡◌, ℕ, zero, suc, ◌*◌, ◌≤◌, min, List, map, length, take, drop, ℤ, vec_items, sym, ap, ◌∙◌, subst, suc-mul, arith}
 use Rattle.std.proofs.lemmas.Nat.{mul-le}
-use Rattle.std.proofs.lemmas.List.{length-append, length-map, length-take, take-map, drop-map, length-replicate}
-use Rattle.notation.specs.Kind.{Kind, rest}
+use Rattle.std.proofs.lemmas.List.{length-append, length-map, length-take, take-map, drop-map}
+use Rattle.notation.specs.Kind.{Kind}
 use Rattle.price.specs.Pricing.{Pricing}
 use Rattle.splitting.specs.Answer.{Answers, meant}
 use Rattle.splitting.specs.Score as splitting
@@ -18,18 +17,13 @@ use Rattle.search.specs.Workspace.{symbols}
 use Rattle.finder.specs.declared.score.Score.{Score}
 use Rattle.finder.proofs.Capping.{question_cap}
 
--- a list that was made has the length asked for
-pub made_long : {X : Type 0} (given items : List X) (n want : ℕ) (x : X) → given ≡ items → items ≡ replicate n x → n ≡ want → length given ≡ want
-made_long given items n want x e is n-is = ap length (e ∙ is) ∙ length-replicate n x ∙ n-is
-
 -- the front of a list of rests has become a query transposed
-pub moved_rightly : {S : Type 0} (k : Kind) (byte : S → ℕ) (by : ℤ) (query out before : List S) (x : S) (room : ℕ) → before ≡ replicate (min room 64) x → byte x ≡ rest → Transposed k by (map byte query) (map byte (take (length query) out)) → drop (length query) out ≡ drop (length query) before → MovedRightly k by (map byte query) room (map byte out)
-moved_rightly k byte by query out before x room made is moved behind =
+pub moved_rightly : {S : Type 0} (k : Kind) (byte : S → ℕ) (by : ℤ) (query out before : List S) (room : ℕ) → map byte before ≡ rests room → Transposed k by (map byte query) (map byte (take (length query) out)) → drop (length query) out ≡ drop (length query) before → MovedRightly k by (map byte query) room (map byte out)
+moved_rightly k byte by query out before room made moved behind =
     let n : length (map byte query) ≡ length query = length-map query byte in
-    let front : take (length (map byte query)) (map byte out) ≡ map byte (take (length query) out) = ap (λ (i : ℕ). take i (map byte out)) n ∙ take-map byte (length query) out in
-    let rests-made : map byte before ≡ rests room = ap (map byte) made ∙ map-replicate byte (min room 64) x ∙ ap (replicate (min room 64)) is in (
+    let front : take (length (map byte query)) (map byte out) ≡ map byte (take (length query) out) = ap (λ (i : ℕ). take i (map byte out)) n ∙ take-map byte (length query) out in (
       subst (λ (list : List ℕ). Transposed k by (map byte query) list) (sym front) moved,
-      ap (λ (i : ℕ). drop i (map byte out)) n ∙ drop-map byte (length query) out ∙ ap (map byte) behind ∙ sym (drop-map byte (length query) before) ∙ (λ j. drop (sym n j) (rests-made j)),
+      ap (λ (i : ℕ). drop i (map byte out)) n ∙ drop-map byte (length query) out ∙ ap (map byte) behind ∙ sym (drop-map byte (length query) before) ∙ (λ j. drop (sym n j) (made j)),
     )
 
 -- a list of blank pieces, with the answer that was told of it

@@ -72,50 +72,50 @@ pub record Answered (m : Pricing) (ask : Question) (x : Answer m.Meaning) : Type
 module _ {S P R : Type 0} (k : Kind) (byte : S → ℕ) (prices : Prices P R) where
   -- an answer at a price kind is that of a granted question, which asked what the ledger says
   first_given : (l : Ledger) (call : Command) (t : Told P) → call_refusal k l call ≡ None → Gives {S = S} k byte prices l call (First t) → Answered prices.first (asked k l (query_of call)) (meant prices.first_means t.answer)
-  first_given l (appends column) t kept e = let z : ◌≡◌ {A = ℕ} 0 1 = cc in absurd (omega arith)
-  first_given l (corrects column track symbol) t kept e = let z : ◌≡◌ {A = ℕ} 0 1 = cc in absurd (omega arith)
-  first_given l (cuts columns) t kept e = let z : ◌≡◌ {A = ℕ} 0 1 = cc in absurd (omega arith)
-  first_given l (fills book) t kept e = let z : ◌≡◌ {A = ℕ} 0 1 = cc in absurd (omega arith)
-  first_given l (sets limit mode) t kept e = let z : ◌≡◌ {A = ℕ} 0 1 = cc in absurd (omega arith)
-  first_given l (begins limit) t kept e = let z : ◌≡◌ {A = ℕ} 0 1 = cc in absurd (omega arith)
-  first_given l ends t kept e = let z : ◌≡◌ {A = ℕ} 0 1 = cc in absurd (omega arith)
-  first_given l (sizes query) t kept e = let z : ◌≡◌ {A = ℕ} 0 1 = cc in absurd (omega arith)
+  first_given l (appends column) t kept e = grind arith
+  first_given l (corrects column track symbol) t kept e = grind arith
+  first_given l (cuts columns) t kept e = grind arith
+  first_given l (fills book) t kept e = grind arith
+  first_given l (sets limit mode) t kept e = grind arith
+  first_given l (begins limit) t kept e = grind arith
+  first_given l ends t kept e = grind arith
+  first_given l (sizes query) t kept e = grind arith
   first_given l (transposes query by room) t kept e = absurd e
   first_given l (asks query room at) t kept e =
       record { before = blanks room.list; after = vec_items t.list; answers = e.1; short = (granted (asked k l query) room.list room.prices room.window room.steps kept).0.0.few }
 
   second_given : (l : Ledger) (call : Command) (t : Told R) → call_refusal k l call ≡ None → Gives {S = S} k byte prices l call (Second t) → Answered prices.second (asked k l (query_of call)) (meant prices.second_means t.answer)
-  second_given l (appends column) t kept e = let z : ◌≡◌ {A = ℕ} 0 1 = cc in absurd (omega arith)
-  second_given l (corrects column track symbol) t kept e = let z : ◌≡◌ {A = ℕ} 0 1 = cc in absurd (omega arith)
-  second_given l (cuts columns) t kept e = let z : ◌≡◌ {A = ℕ} 0 1 = cc in absurd (omega arith)
-  second_given l (fills book) t kept e = let z : ◌≡◌ {A = ℕ} 0 1 = cc in absurd (omega arith)
-  second_given l (sets limit mode) t kept e = let z : ◌≡◌ {A = ℕ} 0 1 = cc in absurd (omega arith)
-  second_given l (begins limit) t kept e = let z : ◌≡◌ {A = ℕ} 0 1 = cc in absurd (omega arith)
-  second_given l ends t kept e = let z : ◌≡◌ {A = ℕ} 0 1 = cc in absurd (omega arith)
-  second_given l (sizes query) t kept e = let z : ◌≡◌ {A = ℕ} 0 1 = cc in absurd (omega arith)
+  second_given l (appends column) t kept e = grind arith
+  second_given l (corrects column track symbol) t kept e = grind arith
+  second_given l (cuts columns) t kept e = grind arith
+  second_given l (fills book) t kept e = grind arith
+  second_given l (sets limit mode) t kept e = grind arith
+  second_given l (begins limit) t kept e = grind arith
+  second_given l ends t kept e = grind arith
+  second_given l (sizes query) t kept e = grind arith
   second_given l (transposes query by room) t kept e = absurd e
   second_given l (asks query room at) t kept e =
       record { before = blanks room.list; after = vec_items t.list; answers = e.1; short = (granted (asked k l query) room.list room.prices room.window room.steps kept).0.0.few }
 
   first_right : (l : Ledger) (call : Command) (o : Outcome S P R) (x : Answer prices.first.Meaning) → RightOutcome k byte prices l call o → first_answer prices.first_means o ≡ Some x → Answered prices.first (asked k l (query_of call)) x
-  first_right l call NoCall x w e = let z : ◌≡◌ {A = ℕ} 0 1 = cc in absurd (omega arith)
-  first_right l call (Refused r) x w e = let z : ◌≡◌ {A = ℕ} 0 1 = cc in absurd (omega arith)
-  first_right l call Done x w e = let z : ◌≡◌ {A = ℕ} 0 1 = cc in absurd (omega arith)
-  first_right l call (Size n) x w e = let z : ◌≡◌ {A = ℕ} 0 1 = cc in absurd (omega arith)
-  first_right l call (MovedTo v) x w e = let z : ◌≡◌ {A = ℕ} 0 1 = cc in absurd (omega arith)
-  first_right l call (Second t) x w e = let z : ◌≡◌ {A = ℕ} 0 1 = cc in absurd (omega arith)
+  first_right l call NoCall x w e = grind arith
+  first_right l call (Refused r) x w e = grind arith
+  first_right l call Done x w e = grind arith
+  first_right l call (Size n) x w e = grind arith
+  first_right l call (MovedTo v) x w e = grind arith
+  first_right l call (Second t) x w e = grind arith
   first_right l call (First t) x w e =
       let g = settled (no_call l call) (call_refusal k l call) (Gives k byte prices l call (First t)) (First t) w (λ n. let z : ◌≡◌ {A = ℕ} 0 1 = cc in omega arith) (λ r n. let z : ◌≡◌ {A = ℕ} 0 1 = cc in omega arith) in
       let same : meant prices.first_means t.answer ≡ x = cc in
       subst (λ (y : Answer prices.first.Meaning). Answered prices.first (asked k l (query_of call)) y) same (first_given l call t g.0 g.1)
 
   second_right : (l : Ledger) (call : Command) (o : Outcome S P R) (x : Answer prices.second.Meaning) → RightOutcome k byte prices l call o → second_answer prices.second_means o ≡ Some x → Answered prices.second (asked k l (query_of call)) x
-  second_right l call NoCall x w e = let z : ◌≡◌ {A = ℕ} 0 1 = cc in absurd (omega arith)
-  second_right l call (Refused r) x w e = let z : ◌≡◌ {A = ℕ} 0 1 = cc in absurd (omega arith)
-  second_right l call Done x w e = let z : ◌≡◌ {A = ℕ} 0 1 = cc in absurd (omega arith)
-  second_right l call (Size n) x w e = let z : ◌≡◌ {A = ℕ} 0 1 = cc in absurd (omega arith)
-  second_right l call (MovedTo v) x w e = let z : ◌≡◌ {A = ℕ} 0 1 = cc in absurd (omega arith)
-  second_right l call (First t) x w e = let z : ◌≡◌ {A = ℕ} 0 1 = cc in absurd (omega arith)
+  second_right l call NoCall x w e = grind arith
+  second_right l call (Refused r) x w e = grind arith
+  second_right l call Done x w e = grind arith
+  second_right l call (Size n) x w e = grind arith
+  second_right l call (MovedTo v) x w e = grind arith
+  second_right l call (First t) x w e = grind arith
   second_right l call (Second t) x w e =
       let g = settled (no_call l call) (call_refusal k l call) (Gives k byte prices l call (Second t)) (Second t) w (λ n. let z : ◌≡◌ {A = ℕ} 0 1 = cc in omega arith) (λ r n. let z : ◌≡◌ {A = ℕ} 0 1 = cc in omega arith) in
       let same : meant prices.second_means t.answer ≡ x = cc in

@@ -7,3 +7,4 @@ pub mod Ledger
 pub mod Outcomes
 pub mod Promise
 pub mod Trying
+pub mod Trials

@@ -3,14 +3,14 @@
 use notation::Mode;
 
 /// At which of two price kinds a question is asked.
-#[derive(Clone, Copy)]
+#[derive(Clone, Copy, Debug, PartialEq, Eq)]
 pub enum PriceKind {
     First,
     Second,
 }
 
 /// The lengths of what a question is lent: the list for its pieces, and three sheets to work on.
-#[derive(Clone, Copy)]
+#[derive(Clone, Copy, Debug, PartialEq, Eq)]
 pub struct Room {
     pub list: usize,
     pub prices: usize,
@@ -19,7 +19,7 @@ pub struct Room {
 }
 
 /// One call on a score and its terms. Limits are plain numbers, and may be refused.
-#[derive(Drop)]
+#[derive(Debug, PartialEq, Eq, Drop)]
 pub enum Call<'a, S> {
     /// Puts a column last.
     Append(&'a [S]),

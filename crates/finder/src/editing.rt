@@ -1,6 +1,6 @@
 //! The calls that change a score by hand. A refusal changes nothing.
 
-ghost use Rattle.std.specs.Prelude.{◌≡◌, ◌+◌, ◌≤◌, ◌++◌, map, length, take, drop};
+ghost use Rattle.std.specs.Prelude.{map, length};
 ghost use Rattle.finder.specs.Edits.{appended, corrected, first_columns};
 ghost use Rattle.finder.specs.ScoreRules.{append_refusal, correct_refusal, cut_refusal};
 ghost use Rattle.finder.specs.Scores.{columns_held, Changed, SymbolTold};
@@ -23,7 +23,7 @@ impl<S: Symbol> Score<S> {
             return Err(ScoreFault::NoRoom { capacity });
         }
         let from = self.columns * tracks;
-        put(&mut self.memory, from, column);
+        self.memory[from..from + tracks].copy_from_slice(column);
         self.columns += 1;
         Ok(())
     }
@@ -63,12 +63,4 @@ impl<S: Symbol> Score<S> {
         }
         Some(self.memory[(column - 1) * self.tracks + (track - 1)])
     }
-}
-
-/// Copies symbols into memory, from a place on.
-fn put<S: Symbol>(memory: &mut [S], at: usize, symbols: &[S])
-    requires { at + length symbols.now ≤ length memory.old }
-    ensures { memory.new ≡ take at memory.old ++ (symbols.now ++ drop (at + length symbols.now) memory.old) }
-{
-    memory[at..at + symbols.len()].copy_from_slice(symbols);
 }

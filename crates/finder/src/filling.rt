@@ -1,12 +1,13 @@
 //! Filling a score from a book, and writing it as one.
 
-ghost use Rattle.std.specs.Prelude.{◌≡◌, ◌*◌, ◌≤◌, ◌++◌, map, length, drop};
-ghost use Rattle.book.specs.Grids.{Grid as Held, bytes_of};
+ghost use Rattle.std.specs.Prelude.{◌≡◌, ◌*◌, ◌≤◌, map, length};
+ghost use Rattle.book.specs.Grids.{Grid as Held, spelled, bytes_of};
 ghost use Rattle.book.specs.Reading.{Holds};
 ghost use Rattle.book.specs.Writing.{Written};
 ghost use Rattle.finder.specs.Edits.{book_columns};
 ghost use Rattle.finder.specs.ScoreRules.{fill_refusal};
-ghost use Rattle.finder.specs.Scores.{Changed, HoldsAgain, WrittenAgain, Spelled, score_grid};
+ghost use Rattle.search.specs.Questions.{spelled as columns_spelled};
+ghost use Rattle.finder.specs.Scores.{columns_held, Changed, HoldsAgain, WrittenAgain, Spelled, score_grid};
 
 use super::score::Score;
 use super::score_fault::ScoreFault;
@@ -31,7 +32,8 @@ impl<S: Symbol> Score<S> {
         if columns > capacity {
             return Err(ScoreFault::NoRoom { capacity });
         }
-        copy_symbols::<S>(&book, tracks, columns * tracks, &mut self.memory);
+        let used = columns * tracks;
+        copy_symbols(&book, tracks, &mut self.memory[0..used]);
         self.columns = columns;
         Ok(())
     }
@@ -41,19 +43,26 @@ impl<S: Symbol> Score<S> {
         ensures written { Written (bytes_of S.kind (score_grid S.byte self.now)) out.old out.new result }
         ensures spelled { Spelled S.kind S.byte self.now }
     {
+        self.grid().write(out)
+    }
+
+    // The columns held, as a grid.
+    pub(crate) fn grid(&self) -> Grid<'_, S>
+        ensures grid { spelled S.byte result.tracks result.columns result.symbols.now ≡ score_grid S.byte self.now }
+        ensures columns { columns_spelled S.byte result ≡ columns_held S.byte self.now }
+    {
         let used = self.columns * self.tracks;
-        let grid = Grid::new(self.tracks, &self.memory[0..used]);
-        grid.write(out)
+        Grid::new(self.tracks, &self.memory[0..used])
     }
 }
 
-/// Copies the first symbols of a book of so many tracks to the front of memory.
-fn copy_symbols<S: Symbol>(book: &Book<'_, S>, tracks: usize, count: usize, memory: &mut [S])
-    requires some_track { 1 ≤ tracks }
-    requires room { count ≤ length memory.old }
-    ensures { (g : Held) → Holds S.kind book.now g → g.tracks ≡ tracks → count ≡ g.columns * g.tracks → map S.byte memory.new ≡ g.cells ++ drop count (map S.byte memory.old) }
+/// Copies the symbols of a book of so many tracks to memory of as many symbols.
+fn copy_symbols<S: Symbol>(book: &Book<'_, S>, tracks: usize, memory: &mut [S])
+    requires { 1 ≤ tracks }
+    ensures { (g : Held) → Holds S.kind book.now g → g.tracks ≡ tracks → length memory.old ≡ g.columns * g.tracks → map S.byte memory.new ≡ g.cells }
 {
-    for i in 0..count {
+    for i in 0..memory.len() {
+        // Stays: a loop over columns and one over tracks would be two functions, and no shorter.
         if let Some(symbol) = book.symbol(i / tracks + 1, i % tracks + 1) {
             memory[i] = symbol;
         }

@@ -4,7 +4,6 @@
 #![tactic(auto)]
 
 mod call;
-mod changing;
 mod editing;
 #[cfg(test)]
 mod examples;
@@ -20,6 +19,7 @@ mod question;
 mod questioning;
 mod score;
 mod score_fault;
+mod session;
 mod terms;
 #[cfg(test)]
 mod tests;

@@ -6,7 +6,7 @@ ghost use Rattle.finder.specs.Limits.{limit_refusal, limit_told};
 use super::limit_fault::LimitFault;
 
 /// At most so many columns between two pieces: 0 to 4,095, checked when made and lawful ever after.
-#[derive(Clone, Copy)]
+#[derive(Clone, Copy, Debug, PartialEq, Eq)]
 pub struct Limit {
     value: u32,
     ghost lawful: { value ≤ 4095 },

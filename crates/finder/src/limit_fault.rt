@@ -6,7 +6,7 @@ ghost use Rattle.finder.specs.Limits.{limit_told};
 use book::{Layer, Refusal};
 
 /// A number above every limit.
-#[derive(Clone, Copy)]
+#[derive(Clone, Copy, Debug, PartialEq, Eq)]
 pub struct LimitFault {
     pub number: u32,
 }

@@ -4,46 +4,43 @@ ghost use Rattle.std.specs.Prelude.{◌≡◌, map, IfOk, vec_len};
 ghost use Rattle.finder.specs.Ledger.{command};
 ghost use Rattle.finder.specs.Promise.{Performed};
 ghost use Rattle.finder.specs.ScoreRules.{memory_refusal};
-ghost use Rattle.finder.specs.Trying.{Tried, ledger_of, prices_of};
+ghost use Rattle.finder.specs.Trying.{CallTried, prices_of};
 
 use super::call::Call;
-use super::changing::{try_append, try_correct, try_cut, try_fill};
-use super::limit::Limit;
-use super::limiting::{try_begin, try_end, try_set};
 use super::outcome::{Outcome, Performance};
-use super::questioning::{try_ask, try_size, try_transpose};
+use super::questioning::transpose;
 use super::score::Score;
-use super::terms::Terms;
+use super::session::Session;
 use book::Refusal;
 use notation::Symbol;
 use price::Price;
 use std::alloc::{AllocError, Global};
 
-// Tries one call.
-fn perform_call<S: Symbol, P: Price, R: Price>(
-    heap: Global,
-    score: &mut Score<S>,
-    terms: &mut Terms,
-    tried: &mut Vec<Limit>,
-    call: &Call<'_, S>,
-) -> Result<Outcome<S, P, R>, AllocError>
-    ensures { IfOk result (λ o. Tried S.kind S.byte (prices_of P.pricing P.meaning R.pricing R.meaning) (ledger_of S.byte score.old terms.old tried.old.items) (command S.byte call.now) (ledger_of S.byte score.new terms.new tried.new.items) o) }
-{
-    match call {
-        Call::Append(column) => Ok(try_append(score, column)),
-        Call::Correct {
-            column,
-            track,
-            symbol,
-        } => Ok(try_correct(score, *column, *track, *symbol)),
-        Call::Cut { columns } => Ok(try_cut(score, *columns)),
-        Call::Fill(book) => Ok(try_fill(score, book)),
-        Call::Set { limit, mode } => Ok(try_set(terms, tried, *limit, *mode)),
-        Call::Begin { limit } => try_begin(terms, tried, *limit),
-        Call::End => Ok(try_end(terms, tried)),
-        Call::Size(query) => Ok(try_size(score, terms, tried, query)),
-        Call::Transpose { query, by, room } => try_transpose(heap, query, *by, *room),
-        Call::Ask { query, room, at } => try_ask(heap, score, terms, tried, query, *room, *at),
+impl<S: Symbol> Session<S> {
+    /// Tries one call.
+    fn perform_call<P: Price, R: Price>(
+        &mut self,
+        heap: Global,
+        call: &Call<'_, S>,
+    ) -> Result<Outcome<S, P, R>, AllocError>
+        ensures { IfOk result (CallTried S.Symbol P.Price R.Price self.old (command S.byte call.now) self.new) }
+    {
+        match call {
+            Call::Append(column) => Ok(Outcome::of_change(self.score.append(column))),
+            Call::Correct {
+                column,
+                track,
+                symbol,
+            } => Ok(Outcome::of_change(self.score.correct(*column, *track, *symbol))),
+            Call::Cut { columns } => Ok(Outcome::of_change(self.score.cut(*columns))),
+            Call::Fill(book) => Ok(Outcome::of_change(self.score.fill(book))),
+            Call::Set { limit, mode } => Ok(self.set(*limit, *mode)),
+            Call::Begin { limit } => self.begin(*limit),
+            Call::End => Ok(self.end()),
+            Call::Size(query) => Ok(self.size(query)),
+            Call::Transpose { query, by, room } => transpose(heap, query, *by, *room),
+            Call::Ask { query, room, at } => self.ask(heap, query, *room, *at),
+        }
     }
 }
 
@@ -51,10 +48,8 @@ fn perform_call<S: Symbol, P: Price, R: Price>(
 fn memory_checked<S>(tracks: usize, length: usize) -> Option<Refusal>
     ensures { result ≡ memory_refusal tracks length }
 {
-    match Score::<S>::check(tracks, length) {
-        Ok(()) => None,
-        Err(fault) => Some(fault.refusal()),
-    }
+    let checked = Score::<S>::check(tracks, length).err();
+    checked.map(|fault| fault.refusal())
 }
 
 /// Makes a score of so many tracks over memory, and terms, and tries every call of a list in turn.
@@ -69,13 +64,10 @@ pub fn perform<S: Symbol, P: Price, R: Price>(
     ensures { IfOk result (Performed S.kind S.byte (prices_of P.pricing P.meaning R.pricing R.meaning) tracks (vec_len memory) (map (command S.byte) calls.now)) }
 {
     let checked = memory_checked::<S>(tracks, memory.len());
-    let mut score = Score::new(tracks, memory);
-    let mut terms = Terms::new();
-    let mut tried = Vec::new(heap);
+    let mut session = Session::new(heap, tracks, memory);
     let mut outcomes = Vec::new(heap);
     for call in calls {
-        let outcome = perform_call(heap, &mut score, &mut terms, &mut tried, call)?;
-        outcomes.push(outcome)?;
+        outcomes.push(session.perform_call(heap, call)?)?;
     }
     Ok(Performance {
         memory: checked,

@@ -1,27 +1,17 @@
 //! Questions to a score: what workspace they ask for, and their answers.
 
 ghost use Rattle.std.specs.Prelude.{◌≡◌, length};
-ghost use Rattle.search.specs.Questions.{spelled, question_refusal, Sized, Sought};
+ghost use Rattle.search.specs.Questions.{question_refusal, Sized, Sought};
 ghost use Rattle.finder.specs.Questions.{question};
-ghost use Rattle.finder.specs.Scores.{columns_held};
 
 use super::score::Score;
 use super::terms::Terms;
-use book::Grid;
 use notation::Symbol;
 use price::{Entry, Price};
 use search::{QueryFault, QuestionFault, find, workspace_size};
 use splitting::{Answer, Piece};
 
 impl<S: Symbol> Score<S> {
-    // The columns held.
-    fn grid(&self) -> Grid<'_, S>
-        ensures { spelled S.byte result ≡ columns_held S.byte self.now }
-    {
-        let used = self.columns * self.tracks;
-        Grid::new(self.tracks, &self.memory[0..used])
-    }
-
     /// How long each of the three sheets must be that are lent to a question.
     pub fn workspace_size(&self, terms: &Terms, query: &[S]) -> Result<usize, QueryFault>
         ensures { Sized (question S.kind S.byte self.now terms.now query.now) result }

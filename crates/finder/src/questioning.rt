@@ -8,15 +8,14 @@ ghost use Rattle.std.specs.Prelude.{◌≡◌, map, replicate, IfOk};
 ghost use Rattle.notation.specs.Kind.{rest};
 ghost use Rattle.finder.specs.Ledger.{Ledger, sizes, transposes, asks};
 ghost use Rattle.finder.specs.Questions.{question};
-ghost use Rattle.finder.specs.Trying.{Tried, ledger_of, prices_of, under, AnsweredUnder, first_told, second_told};
+ghost use Rattle.finder.specs.Trying.{Tried, CallTried, prices_of, under, AnsweredUnder};
 
 use super::call::{PriceKind, Room};
 use super::limit::Limit;
-use super::limiting::limit_in_force;
 use super::outcome::{Outcome, Told};
 use super::score::Score;
+use super::session::Session;
 use super::terms::Terms;
-use super::trial::Trial;
 use book::Refusal;
 use notation::Symbol;
 use price::{Entry, Price};
@@ -24,41 +23,54 @@ use search::transposed;
 use splitting::Piece;
 use std::alloc::{AllocError, Global};
 
-// So many copies of one value.
-fn repeated<T: Copy>(heap: Global, x: T, count: usize) -> Result<Vec<T>, AllocError>
-    ensures { IfOk result (λ v. v.items ≡ replicate count x) }
-{
-    let mut copies = Vec::new(heap);
-    while copies.len() < count {
-        copies.push(x)?;
+impl<S: Symbol> Session<S> {
+    pub(crate) fn size<P: Price, R: Price>(&self, query: &[S]) -> Outcome<S, P, R>
+        ensures { CallTried S.Symbol P.Price R.Price self.now (sizes (map S.byte query.now)) self.now result }
+    {
+        match self.score.workspace_size(&self.terms, query) {
+            Ok(size) => Outcome::Size(size),
+            Err(fault) => Outcome::Refused(fault.refusal()),
+        }
     }
-    Ok(copies)
+
+    pub(crate) fn ask<P: Price, R: Price>(
+        &mut self,
+        heap: Global,
+        query: &[S],
+        room: Room,
+        at: PriceKind,
+    ) -> Result<Outcome<S, P, R>, AllocError>
+        ensures { IfOk result (CallTried S.Symbol P.Price R.Price self.old (asks (map S.byte query.now) room at) self.new) }
+    {
+        let limit = self.limit();
+        // Stays: no rule covers a variant passed on as a function, whose result names both prices.
+        match at {
+            PriceKind::First => {
+                match ask_under::<S, P>(heap, &self.score, &mut self.terms, limit, query, room)? {
+                    Ok(told) => Ok(Outcome::First(told)),
+                    Err(refusal) => Ok(Outcome::Refused(refusal)),
+                }
+            }
+            PriceKind::Second => {
+                match ask_under::<S, R>(heap, &self.score, &mut self.terms, limit, query, room)? {
+                    Ok(told) => Ok(Outcome::Second(told)),
+                    Err(refusal) => Ok(Outcome::Refused(refusal)),
+                }
+            }
+        }
+    }
 }
 
-fn rest_symbol<S: Symbol>() -> S
-    ensures { S.byte result ≡ rest }
+// A list of so many rests.
+fn rests<S: Symbol>(heap: Global, count: usize) -> Result<Vec<S>, AllocError>
+    ensures { IfOk result (λ v. map S.byte v.items ≡ replicate count rest) }
 {
-    match S::read(255) {
-        Some(symbol) => symbol,
-        None => unreachable(),
-    }
+    let mut list = Vec::new(heap);
+    list.resize(count, S::rest())?;
+    Ok(list)
 }
 
-pub(crate) fn try_size<S: Symbol, P: Price, R: Price>(
-    score: &Score<S>,
-    terms: &Terms,
-    tried: &Vec<Limit>,
-    query: &[S],
-) -> Outcome<S, P, R>
-    ensures { Tried S.kind S.byte (prices_of P.pricing P.meaning R.pricing R.meaning) (ledger_of S.byte score.now terms.now tried.now.items) (sizes (map S.byte query.now)) (ledger_of S.byte score.now terms.now tried.now.items) result }
-{
-    match score.workspace_size(terms, query) {
-        Ok(size) => Outcome::Size(size),
-        Err(fault) => Outcome::Refused(fault.refusal()),
-    }
-}
-
-pub(crate) fn try_transpose<S: Symbol, P: Price, R: Price>(
+pub(crate) fn transpose<S: Symbol, P: Price, R: Price>(
     heap: Global,
     query: &[S],
     by: i32,
@@ -66,7 +78,7 @@ pub(crate) fn try_transpose<S: Symbol, P: Price, R: Price>(
 ) -> Result<Outcome<S, P, R>, AllocError>
     ensures { IfOk result (λ o. (l : Ledger) → Tried S.kind S.byte (prices_of P.pricing P.meaning R.pricing R.meaning) l (transposes (map S.byte query.now) by room) l o) }
 {
-    let mut list = repeated(heap, rest_symbol::<S>(), room.min(64))?;
+    let mut list = rests(heap, room.min(64))?;
     match transposed(query, by, &mut list) {
         Ok(()) => Ok(Outcome::Transposed(list)),
         Err(fault) => Ok(Outcome::Refused(fault.refusal())),
@@ -94,10 +106,10 @@ fn ask<S: Symbol, P: Price>(
         place: 0,
         price: P::empty(),
     };
-    let mut list = repeated(heap, blank, room.list.min(64))?;
-    let mut prices = repeated(heap, Option::<P>::None, room.prices.min(4194304))?;
-    let mut window = repeated(heap, nowhere, room.window.min(4194304))?;
-    let mut steps = repeated(heap, 0u32, room.steps.min(4194304))?;
+    let mut list = vec![in heap; blank; room.list.min(64)]?;
+    let mut prices = vec![in heap; Option::<P>::None; room.prices.min(4194304)]?;
+    let mut window = vec![in heap; nowhere; room.window.min(4194304)]?;
+    let mut steps = vec![in heap; 0u32; room.steps.min(4194304)]?;
     match score.find(
         terms,
         query,
@@ -124,49 +136,6 @@ fn ask_under<S: Symbol, P: Price>(
     ensures limit { terms.new.limit ≡ terms.old.limit }
     ensures mode { terms.new.mode ≡ terms.old.mode }
 {
-    let former = terms.exchange(limit);
-    let trial = Trial { terms, former };
+    let trial = terms.begin(limit);
     ask(heap, score, trial.terms(), query, room)
-}
-
-fn first_outcome<S, P, R>(r: Result<Told<P>, Refusal>) -> Outcome<S, P, R>
-    ensures { result ≡ first_told r }
-{
-    match r {
-        Ok(told) => Outcome::First(told),
-        Err(refusal) => Outcome::Refused(refusal),
-    }
-}
-
-fn second_outcome<S, P, R>(r: Result<Told<R>, Refusal>) -> Outcome<S, P, R>
-    ensures { result ≡ second_told r }
-{
-    match r {
-        Ok(told) => Outcome::Second(told),
-        Err(refusal) => Outcome::Refused(refusal),
-    }
-}
-
-pub(crate) fn try_ask<S: Symbol, P: Price, R: Price>(
-    heap: Global,
-    score: &Score<S>,
-    terms: &mut Terms,
-    tried: &Vec<Limit>,
-    query: &[S],
-    room: Room,
-    at: PriceKind,
-) -> Result<Outcome<S, P, R>, AllocError>
-    ensures { IfOk result (λ o. Tried S.kind S.byte (prices_of P.pricing P.meaning R.pricing R.meaning) (ledger_of S.byte score.now terms.old tried.now.items) (asks (map S.byte query.now) room at) (ledger_of S.byte score.now terms.new tried.now.items) o) }
-{
-    let limit = limit_in_force(terms, tried);
-    match at {
-        PriceKind::First => {
-            let told = ask_under::<S, P>(heap, score, terms, limit, query, room)?;
-            Ok(first_outcome(told))
-        }
-        PriceKind::Second => {
-            let told = ask_under::<S, R>(heap, score, terms, limit, query, room)?;
-            Ok(second_outcome(told))
-        }
-    }
 }

@@ -52,19 +52,15 @@ impl<S> Score<S> {
         ensures empty { result.columns ≡ 0 }
         ensures memory { result.memory ≡ memory }
     {
-        if Self::fits(tracks, memory.len()) {
-            let capacity = memory.len() / tracks;
-            return Score {
-                memory,
-                tracks,
-                capacity,
-                columns: 0,
-            };
-        }
+        let (tracks, capacity) = if Self::fits(tracks, memory.len()) {
+            (tracks, memory.len() / tracks)
+        } else {
+            (1, 0)
+        };
         Score {
             memory,
-            tracks: 1,
-            capacity: 0,
+            tracks,
+            capacity,
             columns: 0,
         }
     }

@@ -6,7 +6,7 @@ ghost use Rattle.finder.specs.declared.score_fault.ScoreFault.TheVariants.{OfBoo
 
 use book::{BookFault, Layer, Refusal};
 
-#[derive(Clone, Copy)]
+#[derive(Clone, Copy, Debug, PartialEq, Eq)]
 pub enum ScoreFault {
     /// Tracks outside 1 to 16, or memory that is not 1 to 4,096 columns of them.
     Misshapen { length: usize },

@@ -8,7 +8,7 @@ use notation::Mode;
 
 /// What a search goes by: the limit on the columns between two pieces, and which transpositions
 /// are admitted.
-#[derive(Clone, Copy)]
+#[derive(Clone, Copy, Debug, PartialEq, Eq)]
 pub struct Terms {
     pub(crate) limit: Limit,
     pub(crate) mode: Mode,

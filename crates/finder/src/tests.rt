@@ -6,124 +6,131 @@ use super::score::Score;
 use super::score_fault::ScoreFault;
 use super::terms::Terms;
 use super::trial::tried_twice;
+use book::{Layer, Refusal, TooShort};
 use notation::{Mode, Pitch, Symbol};
 use std::test::*;
 
-fn granted(r: Result<(), ScoreFault>) -> bool {
-    match r {
-        Ok(()) => true,
-        Err(_) => false,
-    }
+/// A call's outcome, a fault as the refusal that it tells.
+fn told(outcome: Result<(), ScoreFault>) -> Result<(), Refusal> {
+    outcome.map_err(|fault| fault.refusal())
 }
 
-/// Whether a call was turned away with that number and that place.
-fn refused(r: Result<(), ScoreFault>, number: u8, place: u64) -> bool {
-    match r {
-        Ok(()) => false,
-        Err(fault) => {
-            let told = fault.refusal();
-            told.number == number && told.place == place
-        }
-    }
-}
-
-/// The byte at a place, and 254 where there is none.
-fn heard(score: &Score<Pitch>, column: usize, track: usize) -> u8 {
-    match score.symbol(column, track) {
-        Some(symbol) => symbol.write(),
-        None => 254,
-    }
+fn refused(number: u8, place: u64, layer: Layer) -> Result<(), Refusal> {
+    Err(Refusal {
+        number,
+        place,
+        layer,
+    })
 }
 
 #[test]
 fn edits_in_turn(rt: HostRuntime) -> Result<(), Fail> {
-    let rest = Pitch::read(255).ok_or(255u8)?;
+    let rest = Pitch::rest();
     let c = Pitch::read(60).ok_or(60u8)?;
     let d = Pitch::read(62).ok_or(62u8)?;
-    assert!(rt; refused(Score::<Pitch>::check(4, 6), 12, 6));
-    assert!(rt; granted(Score::<Pitch>::check(2, 6)));
-    let mut score = Score::new(2, [rest; 6].to_vec(rt.alloc())?);
-    assert!(rt; refused(score.correct(1, 1, c), 15, 1));
-    assert!(rt; refused(score.append(&[c]), 13, 1));
-    assert!(rt; granted(score.append(&[c, rest])));
-    assert!(rt; granted(score.append(&[d, c])));
-    assert!(rt; refused(score.correct(2, 3, d), 15, 3));
-    assert!(rt; granted(score.correct(2, 1, c)));
-    assert!(rt; granted(score.append(&[d, d])));
-    assert!(rt; refused(score.append(&[c, c]), 14, 3));
-    assert!(rt; refused(score.cut(4), 22, 4));
-    assert!(rt; granted(score.cut(2)));
-    assert!(rt; score.tracks() == 2 && score.capacity() == 3 && score.columns() == 2);
-    assert!(rt; heard(&score, 1, 1) == 60 && heard(&score, 1, 2) == 255);
-    assert!(rt; heard(&score, 2, 1) == 60 && heard(&score, 2, 2) == 60);
-    assert!(rt; heard(&score, 3, 1) == 254);
+    assert_eq!(rt;
+        told(Score::<Pitch>::check(4, 6)),
+        refused(12, 6, Layer::Score)
+    );
+    assert_eq!(rt; Score::<Pitch>::check(2, 6), Ok(()));
+    let mut score = Score::new(2, vec![in rt.alloc(); rest; 6]?);
+    assert_eq!(rt; told(score.correct(1, 1, c)), refused(15, 1, Layer::Score));
+    assert_eq!(rt; told(score.append(&[c])), refused(13, 1, Layer::Score));
+    assert_eq!(rt; score.append(&[c, rest]), Ok(()));
+    assert_eq!(rt; score.append(&[d, c]), Ok(()));
+    assert_eq!(rt; told(score.correct(2, 3, d)), refused(15, 3, Layer::Score));
+    assert_eq!(rt; score.correct(2, 1, c), Ok(()));
+    assert_eq!(rt; score.append(&[d, d]), Ok(()));
+    assert_eq!(rt; told(score.append(&[c, c])), refused(14, 3, Layer::Score));
+    assert_eq!(rt; told(score.cut(4)), refused(22, 4, Layer::Score));
+    assert_eq!(rt; score.cut(2), Ok(()));
+    assert_eq!(rt;
+        (score.tracks(), score.capacity(), score.columns()),
+        (2, 3, 2)
+    );
+    assert_eq!(rt;
+        (score.symbol(1, 1), score.symbol(1, 2)),
+        (Some(c), Some(rest))
+    );
+    assert_eq!(rt;
+        (score.symbol(2, 1), score.symbol(2, 2)),
+        (Some(c), Some(c))
+    );
+    assert_eq!(rt; score.symbol(3, 1), None);
     Ok(())
 }
 
 #[test]
 fn fills_in_turn(rt: HostRuntime) -> Result<(), Fail> {
-    let rest = Pitch::read(255).ok_or(255u8)?;
+    let rest = Pitch::rest();
     let c = Pitch::read(60).ok_or(60u8)?;
-    let mut score = Score::new(1, [rest; 2].to_vec(rt.alloc())?);
-    assert!(rt; granted(score.append(&[c])));
-    assert!(rt; granted(score.append(&[rest])));
+    let mut score = Score::new(1, vec![in rt.alloc(); rest; 2]?);
+    assert_eq!(rt; score.append(&[c]), Ok(()));
+    assert_eq!(rt; score.append(&[rest]), Ok(()));
     let mut book = [0u8; 1024];
-    assert!(rt; score.write(&mut book[0..1023]).is_err() && book[0] == 0);
-    assert!(rt; score.write(&mut book).is_ok() && book[0] == 72);
-    let mut narrow = Score::new(2, [rest; 4].to_vec(rt.alloc())?);
-    assert!(rt; refused(narrow.fill(&book), 13, 1));
-    let mut short = Score::new(1, [rest; 1].to_vec(rt.alloc())?);
-    assert!(rt; refused(short.fill(&book), 14, 1));
-    let mut again = Score::new(1, [rest; 3].to_vec(rt.alloc())?);
-    assert!(rt; granted(again.append(&[rest])));
-    assert!(rt; refused(again.fill(&book[0..512]), 10, 1));
-    assert!(rt; again.columns() == 1 && heard(&again, 1, 1) == 255);
-    assert!(rt; granted(again.fill(&book)));
-    assert!(rt; again.columns() == 2 && heard(&again, 1, 1) == 60 && heard(&again, 2, 1) == 255);
+    assert_eq!(rt;
+        score.write(&mut book[0..1023]),
+        Err(TooShort { needed: 1024 })
+    );
+    assert_eq!(rt; book[0], 0);
+    assert_eq!(rt; score.write(&mut book), Ok(1024));
+    assert_eq!(rt; book[0], 72);
+    let mut narrow = Score::new(2, vec![in rt.alloc(); rest; 4]?);
+    assert_eq!(rt; told(narrow.fill(&book)), refused(13, 1, Layer::Score));
+    let mut short = Score::new(1, vec![in rt.alloc(); rest; 1]?);
+    assert_eq!(rt; told(short.fill(&book)), refused(14, 1, Layer::Score));
+    let mut again = Score::new(1, vec![in rt.alloc(); rest; 3]?);
+    assert_eq!(rt; again.append(&[rest]), Ok(()));
+    assert_eq!(rt;
+        told(again.fill(&book[0..512])),
+        refused(10, 1, Layer::Book)
+    );
+    assert_eq!(rt; (again.columns(), again.symbol(1, 1)), (1, Some(rest)));
+    assert_eq!(rt; again.fill(&book), Ok(()));
+    assert_eq!(rt; again.columns(), 2);
+    assert_eq!(rt;
+        (again.symbol(1, 1), again.symbol(2, 1)),
+        (Some(c), Some(rest))
+    );
     Ok(())
-}
-
-/// Whether a number was turned away as a limit.
-fn no_limit(r: Result<Limit, LimitFault>, place: u64) -> bool {
-    match r {
-        Ok(_) => false,
-        Err(fault) => {
-            let told = fault.refusal();
-            told.number == 16 && told.place == place
-        }
-    }
-}
-
-/// The limit told, or 9999 where the trial was turned away.
-fn tried(r: Result<u32, LimitFault>) -> u32 {
-    match r {
-        Ok(value) => value,
-        Err(_) => 9999,
-    }
-}
-
-fn is_any(mode: Mode) -> bool {
-    match mode {
-        Mode::AnyTransposition => true,
-        Mode::Untransposed => false,
-    }
 }
 
 #[test]
 fn terms_in_turn(rt: HostRuntime) -> Result<(), Fail> {
     let mut terms = Terms::new();
-    assert!(rt; terms.limit().value() == 0 && !is_any(terms.mode()));
-    assert!(rt; no_limit(Limit::new(4096), 4096));
-    let limit = Limit::new(3).ok().ok_or(3u8)?;
-    terms.set(limit, Mode::AnyTransposition);
-    assert!(rt; tried(tried_twice(&mut terms, 5, 7)) == 7);
-    assert!(rt; tried(tried_twice(&mut terms, 5, 5)) == 5);
-    assert!(rt; tried(tried_twice(&mut terms, 5, 5000)) == 9999);
-    assert!(rt; terms.limit().value() == 3);
+    assert_eq!(rt;
+        (terms.limit().value(), terms.mode()),
+        (0, Mode::Untransposed)
+    );
+    let refused = Refusal {
+        number: 16,
+        place: 4096,
+        layer: Layer::Limit,
+    };
+    assert_eq!(rt;
+        Limit::new(4096).map_err(|fault| fault.refusal()),
+        Err(refused)
+    );
+    terms.set(Limit::new(3)?, Mode::AnyTransposition);
+    assert_eq!(rt; tried_twice(&mut terms, 5, 7), Ok(7));
+    assert_eq!(rt; tried_twice(&mut terms, 5, 5), Ok(5));
+    assert_eq!(rt;
+        tried_twice(&mut terms, 5, 5000),
+        Err(LimitFault { number: 5000 })
+    );
+    assert_eq!(rt; terms.limit().value(), 3);
     {
-        let trial = terms.begin(Limit::zero());
-        assert!(rt; trial.terms().limit().value() == 0);
+        let mut trial = terms.begin(Limit::zero());
+        assert_eq!(rt; trial.terms().limit().value(), 0);
+        {
+            let within = trial.begin(Limit::new(9)?);
+            assert_eq!(rt; within.terms().limit().value(), 9);
+        }
+        assert_eq!(rt; trial.terms().limit().value(), 0);
     }
-    assert!(rt; terms.limit().value() == 3 && is_any(terms.mode()));
+    assert_eq!(rt;
+        (terms.limit().value(), terms.mode()),
+        (3, Mode::AnyTransposition)
+    );
     Ok(())
 }

@@ -1,12 +1,15 @@
 //! Trials of another limit.
 
 ghost use Rattle.std.specs.Prelude.{◌≡◌, Some, None, MatchResult};
+ghost use Rattle.std.specs.Borrow.{sem};
 ghost use Rattle.book.specs.Refusals.{then};
 ghost use Rattle.finder.specs.Limits.{limit_refusal, limit_told};
+ghost use Rattle.finder.specs.Trials.{LendsTerms};
 
 use super::limit::Limit;
 use super::limit_fault::LimitFault;
 use super::terms::Terms;
+use std::mem;
 
 /// Another limit in force. When it ends, in whichever way, the former one stands again.
 pub struct Trial<'a> {
@@ -34,31 +37,32 @@ impl Trial<'_> {
     {
         &*self.terms
     }
+
+    /// Begins a trial of another limit within this one.
+    pub fn begin(&mut self, limit: Limit) -> Trial<'_>
+        ensures* writes_back { sem 𝓛 (LendsTerms self.entry result) }
+        ensures former { result.former ≡ self.old.terms.now.limit }
+        ensures limit { result.terms.now.limit ≡ limit }
+        ensures mode { result.terms.now.mode ≡ self.old.terms.now.mode }
+    {
+        let terms = &mut *self.terms;
+        terms.begin(limit)
+    }
 }
 
 impl Terms {
     /// Begins a trial of another limit.
     pub fn begin(&mut self, limit: Limit) -> Trial<'_>
+        ensures same_reference { result.terms.ghost_name ≡ self.entry.ghost_name }
         ensures former { result.former ≡ self.old.limit }
         ensures limit { result.terms.now.limit ≡ limit }
         ensures mode { result.terms.now.mode ≡ self.old.mode }
     {
-        let former = self.exchange(limit);
+        let former = mem::replace(&mut self.limit, limit);
         Trial {
             terms: self,
             former,
         }
-    }
-
-    /// Puts another limit in force and tells the former one.
-    pub(crate) fn exchange(&mut self, limit: Limit) -> Limit
-        ensures former { result ≡ self.old.limit }
-        ensures limit { self.new.limit ≡ limit }
-        ensures mode { self.new.mode ≡ self.old.mode }
-    {
-        let former = self.limit;
-        self.limit = limit;
-        former
     }
 }
 
@@ -71,16 +75,11 @@ pub fn tried_twice(terms: &mut Terms, outer: u32, inner: u32) -> Result<u32, Lim
     ensures mode { terms.new.mode ≡ terms.old.mode }
 {
     let limit = Limit::new(outer)?;
-    let former = terms.exchange(limit);
-    let trial = Trial { terms, former };
+    let mut trial = terms.begin(limit);
     let limit = Limit::new(inner)?;
     if inner == outer {
         return Ok(trial.terms().limit().value());
     }
-    let former = trial.terms.exchange(limit);
-    let within = Trial {
-        terms: trial.terms,
-        former,
-    };
+    let within = trial.begin(limit);
     Ok(within.terms().limit().value())
 }

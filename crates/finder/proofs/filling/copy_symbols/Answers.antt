@@ -10,8 +10,8 @@ loop-i-preserved g c = λ h holds e f.
     let byte = g.S.Symbol.byte in
     let first = c.args.memory.now in
     let whole = holds.score.shaped.whole in
-    let l : i < h.columns * h.tracks = omega (arith, c.loop-i-test.true) in
-    let fits : h.columns * h.tracks ≤ length first = omega (arith, c.requires.room) in
+    let l : i < h.columns * h.tracks = omega (arith, c.loop-i-test.true, f) in
+    let fits : h.columns * h.tracks ≤ length first = omega (arith, f) in
     elim c.match-symbol.branch [
       | in-Some w ↦
           let told : Told byte h (i / h.tracks + 1) (i % h.tracks + 1) (Some w.in-Some.symbol) = subst (λ t. Told byte h (i / t + 1) (i % t + 1) (Some w.in-Some.symbol)) (sym e) (w.in-Some.ensures h holds) in
@@ -22,4 +22,4 @@ loop-i-preserved g c = λ h holds e f.
     ]
 
 pub returns : goal.returns
-returns g c = λ h holds e f. symbols_copied g.S.Symbol.byte h holds.score.shaped.whole c.args.memory.now c.loop-i.memory c.loop-i.i c.args.count (omega arith) f (c.loop-i.invariant h holds e f)
+returns g c = λ h holds e f. symbols_copied g.S.Symbol.byte h holds.score.shaped.whole c.args.memory.now c.loop-i.memory c.loop-i.i (omega (arith, f, c.loop-i-test.false)) f (c.loop-i.invariant h holds e f)

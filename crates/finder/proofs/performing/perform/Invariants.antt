@@ -5,10 +5,4 @@ use Rattle.finder.proofs.Running.{RunTo}
 use Rattle.finder.proofs.performing.perform.Given as goal
 
 abbrev pub invariant-loop-call : goal.invariant-loop-call
-invariant-loop-call g l =
-    RunTo g.S.Symbol.kind g.S.Symbol.byte (prices_of g.P.Price.pricing g.P.Price.meaning g.R.Price.pricing g.R.Price.meaning)
-    (ledger_of g.S.Symbol.byte l.initial.score l.initial.terms (vec_items l.initial.tried))
-    (map (command g.S.Symbol.byte) l.calls)
-    l.call-index
-    (ledger_of g.S.Symbol.byte l.score l.terms (vec_items l.tried))
-    (vec_items l.outcomes)
+invariant-loop-call g l = RunTo g.S.Symbol.kind g.S.Symbol.byte (prices_of g.P.Price.pricing g.P.Price.meaning g.R.Price.pricing g.R.Price.meaning) (ledger_of g.S.Symbol.byte l.initial.session) (map (command g.S.Symbol.byte) l.calls) l.call-index (ledger_of g.S.Symbol.byte l.session) (vec_items l.outcomes)

@@ -1,33 +1,13 @@
-use Rattle.std.proofs.Common.{◌≡◌, ◌-◌, ◌*◌, ◌≤◌, map, length, take, vec_items, sym, ap, ◌∙◌, subst, arith}
+use Rattle.std.proofs.Common.{◌*◌, ◌≤◌, map, length, vec_items, arith}
 use Rattle.std.proofs.lemmas.Nat.{mul-le}
-use Rattle.std.proofs.lemmas.List.{take-map, length-take-le}
-use Rattle.book.specs.Grids.{Grid, spelled, bytes_of}
-use Rattle.book.specs.Writing.{Written}
-use Rattle.finder.specs.Scores.{score_grid}
 use Rattle.finder.proofs.ColumnEdits.{columns_front}
-use Rattle.finder.proofs.Filled.{in_shape, when_true, score_spelled}
+use Rattle.finder.proofs.Filled.{score_spelled}
 use Rattle.finder.proofs.score.Score.write.Goals as goal
 
-pub slice_bounds-new-end : goal.slice_bounds-new-end
-slice_bounds-new-end g c =
-    let s = c.args.self.now in
-    omega (arith, mul-le s.columns s.tracks s.capacity s.tracks s.held (omega arith), s.room, c.deref.ensures.len)
-
-pub returns : goal.returns
-returns g c =
+pub returns-clause-spelled : goal.returns-clause-spelled
+returns-clause-spelled g c =
     let s = c.args.self.now in
     let byte = g.S.Symbol.byte in
-    let kind = g.S.Symbol.kind in
     let items = vec_items s.memory in
-    let used = s.columns * s.tracks in
-    let room : used ≤ length items = omega (arith, mul-le s.columns s.tracks s.capacity s.tracks s.held (omega arith), s.room, s.memory.ok.0) in
-    let part : take (used - 0) c.deref.result.now ≡ take used items = let z : used - 0 ≡ used = omega arith in λ j. take (z j) (c.deref.ensures.value j) in
-    let long : length (take (used - 0) c.deref.result.now) ≡ used = ap length part ∙ length-take-le used items room in
-    let shape = in_shape s.tracks s.columns (length (take (used - 0) c.deref.result.now)) s.some_track s.few_tracks (omega (arith, s.held, s.few_columns)) long in
-    let made = when_true _ _ _ shape.0 c.new-grid.ensures in
-    let cells : map byte c.new-grid.result.symbols.now ≡ take used (map byte items) = ap (map byte) (made.2 ∙ part) ∙ sym (take-map byte used items) in
-    let grid : spelled byte c.new-grid.result.tracks c.new-grid.result.columns c.new-grid.result.symbols.now ≡ score_grid byte s = λ j. record { tracks = made.0 j; columns = (made.1 ∙ shape.1) j; cells = cells j } in
-    record {
-      written = subst (λ (x : Grid). Written (bytes_of kind x) c.args.out.now c.write.new.out c.write.result) grid c.write.ensures;
-      spelled = (score_spelled kind byte g.met.S.Symbol.bytes s.tracks s.columns items s.some_track s.few_tracks (omega (arith, s.held, s.few_columns)) room, columns_front s.tracks s.columns (map byte items));
-    }
+    let room : s.columns * s.tracks ≤ length items = omega (arith, mul-le s.columns s.tracks s.capacity s.tracks s.held (omega arith), s.room, s.memory.ok.0) in
+    (score_spelled g.S.Symbol.kind byte g.met.S.Symbol.bytes s.tracks s.columns items s.some_track s.few_tracks (omega (arith, s.held, s.few_columns)) room, columns_front s.tracks s.columns (map byte items))
