@@ -111,38 +111,28 @@ fn codes<S: Symbol>(case: &Case<S>) -> usize {
 
 /// The cheapest way that begins earliest, by changes, and then by silence where that counts.
 pub(super) fn best_way<S: Symbol>(case: &Case<S>, silent: bool) -> Option<Way> {
-    let mut best: Option<Way> = None;
-    for code in 0..codes(case) {
-        if let Some(way) = way_of(case, code) {
-            if best.is_none_or(|other| way.rank(silent) < other.rank(silent)) {
-                best = Some(way);
-            }
-        }
-    }
-    best
+    (0..codes(case))
+        .filter_map(|code| way_of(case, code))
+        .min_by_key(|way| way.rank(silent))
 }
 
 // How many notes match how many places under a shift.
 fn matches<S: Symbol>(case: &Case<S>, shift: i32) -> usize {
-    let notes = case.query.len();
-    let mut count: usize = 0;
-    for code in 0..case.symbols.len().saturating_mul(notes) {
-        let place = place_of(case, code / notes.max(1));
-        let note = (code % notes.max(1)).saturating_add(1);
-        if shift_at(case, note, place) == Some(shift) {
-            count = count.saturating_add(1);
-        }
-    }
-    count
+    let notes = case.query.len().max(1);
+    (0..case.symbols.len().saturating_mul(case.query.len()))
+        .filter(|code| {
+            let place = place_of(case, *code / notes);
+            let note = (*code % notes).saturating_add(1);
+            shift_at(case, note, place) == Some(shift)
+        })
+        .count()
 }
 
 /// The most matches under one admitted shift of the first note.
 pub(super) fn most_matches<S: Symbol>(case: &Case<S>) -> usize {
-    let mut most = 0;
-    for number in 0..case.symbols.len() {
-        if let Some(way) = begun(case, place_of(case, number)) {
-            most = most.max(matches(case, way.shift));
-        }
-    }
-    most
+    (0..case.symbols.len())
+        .filter_map(|number| begun(case, place_of(case, number)))
+        .map(|way| matches(case, way.shift))
+        .max()
+        .unwrap_or(0)
 }

@@ -26,18 +26,13 @@ pub(super) fn is_marked(list: &[Piece], from: usize) -> bool {
 
 // Whether each note of a piece matches under a shift.
 fn lies<S: Symbol>(case: &Case<S>, piece: Piece, shift: i32) -> bool {
-    for i in 0..piece.len {
-        let Some(note) = case.note(piece.first.saturating_add(i)) else {
-            return false;
-        };
-        let Some(symbol) = case.symbol(piece.column.saturating_add(i), piece.track) else {
-            return false;
-        };
-        if note.interval(symbol) != Some(shift) {
-            return false;
-        }
-    }
-    piece.len > 0
+    let matches = |i: usize| {
+        let note = case.note(piece.first.saturating_add(i));
+        let symbol = case.symbol(piece.column.saturating_add(i), piece.track);
+        note.zip(symbol)
+            .is_some_and(|(a, b)| a.interval(b) == Some(shift))
+    };
+    piece.len > 0 && (0..piece.len).all(matches)
 }
 
 // Changes and silence.

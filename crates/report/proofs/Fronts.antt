@@ -1,8 +1,7 @@
 -- Fronts of lists.
-use Rattle.std.proofs.Common.{◌≡◌, ℕ, ◌+◌, ◌-◌, ◌<◌, min, Bool, true, false, leb, List, [], ◌∷◌, ◌++◌, map, length, get_or, take, sym, refl, ap, ◌∙◌, arith, le-leb, leb-false, leb-true}
+use Rattle.std.proofs.Common.{◌≡◌, ℕ, min, Bool, true, false, leb, List, length, take, sym, refl, ap, ◌∙◌, arith, leb-false, leb-true}
 use native.Mathlib.Nat.{min-eq_left, min-eq_right}
-use Rattle.std.proofs.lemmas.List.{map_push, take_more, take_all}
-use Rattle.slip.specs.SlipReading.{has_note}
+use Rattle.std.proofs.lemmas.List.{take_all}
 
 -- a front no longer than the list
 pub take_min : {X : Type 0} (n m : ℕ) (xs : List X) → length xs ≡ m → take (min n m) xs ≡ take n xs

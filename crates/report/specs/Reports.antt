@@ -1,5 +1,5 @@
 -- What a report on some input says.
-use Rattle.std.specs.Prelude.{◌≡◌, ℕ, ◌-◌, ◌/◌, ◌%◌, ◌≤◌, min, Bool, cond, ◌&&◌, ◌⊎◌, List, length, take, drop, Ok, Err, MatchBool, Option, Result, MatchOption, ◌==◌, nat_le, slice_index}
+use Rattle.std.specs.Prelude.{◌≡◌, ℕ, ◌-◌, ◌%◌, ◌≤◌, min, Bool, cond, ◌&&◌, ◌⊎◌, List, length, take, drop, Ok, Err, MatchBool, Option, Result, MatchOption, ◌==◌, nat_le, slice_index}
 use Rattle.notation.specs.declared.mode.Mode.{Mode}
 use Rattle.notation.specs.declared.mode.Mode.TheVariants.{Untransposed, AnyTransposition}
 use Rattle.notation.specs.Kind.{Kind}

@@ -1,4 +1,4 @@
-use Rattle.std.proofs.Common.{◌≡◌, ℕ, suc, ◌-◌, Bool, true, false, List, [], ◌∷◌, ◌++◌, length, ℤ, pos, negsuc, codes, string_bytes, ap, ◌∙◌, append-nil, arith, le-ltb, w32}
+use Rattle.std.proofs.Common.{◌≡◌, ℕ, suc, ◌-◌, Bool, true, false, List, [], ◌∷◌, ◌++◌, length, ℤ, pos, negsuc, codes, ap, ◌∙◌, append-nil, arith, le-ltb, w32}
 use Rattle.std.specs.Fmt.{styled_signed_decimal, format_spec, padded_integral, number_padding, fill_text, decimal}
 use Rattle.std.proofs.lemmas.Int.{to_z-of_z}
 use Rattle.std.proofs.lemmas.Result.{IfOk-weaker}

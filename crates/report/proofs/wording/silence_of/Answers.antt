@@ -1,4 +1,4 @@
-use Rattle.std.proofs.Common.{◌≡◌, ℕ, ◌<◌, List, [], ◌∷◌, length, refl, sym, ◌∙◌, arith}
+use Rattle.std.proofs.Common.{◌≡◌, ◌<◌, List, [], ◌∷◌, length, refl, arith}
 use Rattle.splitting.specs.Score.{Score}
 use Rattle.splitting.specs.Splitting.{silence}
 use Rattle.splitting.specs.declared.Piece.{Piece}
