@@ -1,6 +1,7 @@
 //! The kinds of symbols that books and slips name.
 
-ghost use Rattle.notation.specs.Kinds.{KindRead};
+ghost use Rattle.std.specs.Prelude.{◌≡◌};
+ghost use Rattle.notation.specs.Kinds.{kind_of, KindRead};
 
 use std::error::Error;
 use std::fmt;
@@ -36,6 +37,18 @@ impl TryFrom<u8> for SymbolKind {
             2 => Ok(SymbolKind::PitchClass),
             3 => Ok(SymbolKind::Stroke),
             _ => Err(UnknownKind(byte)),
+        }
+    }
+}
+
+impl From<SymbolKind> for u8 {
+    ghost from_gives = { λ kind byte. byte ≡ (kind_of kind).number };
+
+    fn from(kind: SymbolKind) -> u8 {
+        match kind {
+            SymbolKind::Pitch => 1,
+            SymbolKind::PitchClass => 2,
+            SymbolKind::Stroke => 3,
         }
     }
 }
