@@ -16,8 +16,8 @@ pub struct Entry<P> {
 }
 
 impl<P: Price> Entry<P> {
-    // The positions strictly between.
-    pub(super) fn gap_from(self, from: u32) -> u32
+    /// The positions strictly between `from` and this entry.
+    pub fn gap_from(self, from: u32) -> u32
         ensures { result ≡ gap from self }
     {
         self.position.saturating_sub(from).saturating_sub(1)

@@ -78,7 +78,7 @@ impl Span {
     }
 
     // The span from `from` on, and the entry at its front.
-    // Stays: a slice in a field of `self` is not yet lent on as a `&`, so it comes as a `&mut`.
+    // Stays: tried `&*self.entries` and its like; no rule lends a slice in a field of `self` as a `&`.
     pub(super) fn lead<P: Price>(
         self,
         entries: &mut [Entry<P>],

@@ -4,10 +4,20 @@ ghost use Rattle.std.specs.Prelude.{length, MatchResult, ◌≤◌};
 
 use super::span::Span;
 use super::{Entry, Price};
+use std::error::Error;
+use std::fmt;
 
 /// The position lies after the one that the window stands at.
 #[derive(Clone, Copy, Debug, PartialEq, Eq)]
 pub struct Passed;
+
+impl fmt::Display for Passed {
+    fn fmt<W: fmt::Write>(&self, f: &mut fmt::Formatter<W>) -> fmt::Result {
+        f.write_str("the window has passed that position")
+    }
+}
+
+impl Error for Passed {}
 
 /// The entries put in so far, as far as they may still be told, over memory that the caller
 /// brings. The window moves from late positions to early ones. An entry leaves it for good when
