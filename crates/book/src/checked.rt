@@ -1,13 +1,14 @@
 //! Blocks that are in order by themselves.
 
-ghost use Rattle.std.specs.Prelude.{◌≡◌, ◌^◌, ◌<◌, ◌≤◌, Some, None, MatchResult, slice_index};
+ghost use Rattle.std.specs.Prelude.{◌≡◌, ◌^◌, ◌<◌, ◌≤◌, true, false, Some, None, MatchResult, slice_index};
 ghost use Rattle.book.specs.Blocks.{payload_length, payload, letter, block_refusal};
 ghost use Rattle.book.specs.Books.{expected};
 ghost use Rattle.book.specs.Faults.{block_told};
 ghost use Rattle.book.specs.Letters.{letter_byte};
+ghost use Rattle.book.specs.declared.fault.BookFault.TheVariants.{Unexpected};
 
 use super::block::{check_block, number_of};
-use super::fault::BlockFault;
+use super::fault::{BlockFault, BookFault};
 use super::letter::Letter;
 use super::stage::fits_place;
 use notation::Symbol;
@@ -37,12 +38,15 @@ impl<'a> CheckedBlock<'a> {
         })
     }
 
-    /// Whether the block has the number that its place asks for, and is of the kind.
-    pub(crate) fn is_expected<S: Symbol>(self) -> bool
-        ensures { result ≡ expected S.kind self.entry.number self.entry.bytes.now }
+    /// Refuses a block that has another number than its place asks for, or is of another kind.
+    pub(crate) fn check_place<S: Symbol>(self) -> Result<(), BookFault>
+        ensures { MatchResult result (λ _. expected S.kind self.entry.number self.entry.bytes.now ≡ true) (λ f. (expected S.kind self.entry.number self.entry.bytes.now ≡ false) × (f ≡ Unexpected self.entry.number)) }
     {
         let number = number_of(self.bytes[2], self.bytes[3]);
-        fits_place::<S>(self.number, self.bytes[1], number)
+        if !fits_place::<S>(self.number, self.bytes[1], number) {
+            return Err(BookFault::Unexpected { block: self.number });
+        }
+        Ok(())
     }
 
     pub(crate) fn payload_len(self) -> usize

@@ -1,6 +1,7 @@
 //! Why bytes are refused. Faults nest as the layers do: a block's fault passes up whole.
 
-ghost use Rattle.std.specs.Prelude.{◌≡◌};
+ghost use Rattle.std.specs.Prelude.{◌≡◌, Some};
+ghost use Rattle.book.specs.Describing.{refused};
 ghost use Rattle.book.specs.Faults.{block_told, book_told, short_told};
 ghost use Rattle.book.specs.declared.fault.BookFault.TheVariants.{OfBlock};
 ghost use Rattle.book.specs.declared.fault.DescribeFault.TheVariants.{Memory, OfOutput};
@@ -37,6 +38,16 @@ impl BlockFault {
         }
     }
 }
+
+impl fmt::Display for BlockFault {
+    ghost output = { λ f. Some (refused (block_told f)) };
+
+    fn fmt<W: fmt::Write>(&self, f: &mut fmt::Formatter<W>) -> fmt::Result {
+        write!(f, "{}", self.refusal())
+    }
+}
+
+impl Error for BlockFault {}
 
 /// Why some bytes are no book.
 #[derive(Clone, Copy, Debug, PartialEq, Eq)]
@@ -91,6 +102,16 @@ impl BookFault {
     }
 }
 
+impl fmt::Display for BookFault {
+    ghost output = { λ f. Some (refused (book_told f)) };
+
+    fn fmt<W: fmt::Write>(&self, f: &mut fmt::Formatter<W>) -> fmt::Result {
+        write!(f, "{}", self.refusal())
+    }
+}
+
+impl Error for BookFault {}
+
 /// An output is too short for what is to be written.
 #[derive(Clone, Copy, Debug, PartialEq, Eq)]
 pub struct TooShort {
@@ -108,6 +129,16 @@ impl TooShort {
         }
     }
 }
+
+impl fmt::Display for TooShort {
+    ghost output = { λ f. Some (refused (short_told f)) };
+
+    fn fmt<W: fmt::Write>(&self, f: &mut fmt::Formatter<W>) -> fmt::Result {
+        write!(f, "{}", self.refusal())
+    }
+}
+
+impl Error for TooShort {}
 
 /// Why a book is not described.
 #[derive(Clone, Copy, Debug, PartialEq, Eq)]

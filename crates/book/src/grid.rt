@@ -24,7 +24,7 @@ impl<'a, S> Grid<'a, S> {
         1 <= tracks && tracks <= 16 && symbols.len() % tracks == 0 && symbols.len() / tracks <= 4096
     }
 
-    // Stays: this public call can't fail, so it answers no `Option`; `fits` tells which grid it is.
+    // Stays: this public call promises a grid, and an `Option` would ask its callers for a case more.
     /// The grid of symbols that have the shape of a score, and of others the grid of one track and
     /// no column.
     pub fn new(tracks: usize, symbols: &'a [S]) -> Grid<'a, S>

@@ -49,7 +49,7 @@ fn put_symbols<S: Symbol>(out: &mut [u8; 512], at: usize, symbols: &[S])
     requires { at + length symbols.now ≤ 512 }
     ensures { out.new ≡ take at out.old ++ (map S.byte symbols.now ++ drop (at + length symbols.now) out.old) }
 {
-    // Stays: after a loop over `iter_mut` a proof knows the length alone, and no element.
+    // Stays: tried `zip` with `iter_mut`, of whose writes the library tells no element.
     for (i, s) in symbols.iter().enumerate() {
         out[at + i] = s.write();
     }

@@ -76,11 +76,7 @@ fn title<S: Symbol>(block: CheckedBlock<'_>) -> Result<Stage, BookFault>
     requires { letter block.bytes.now ≡ 72 }
     ensures { MatchResult result (λ s. (title_refusal S.kind block.entry.number block.entry.bytes.now ≡ None) × (s ≡ opened (title_shape block.entry.bytes.now) 0)) (λ f. title_refusal S.kind block.entry.number block.entry.bytes.now ≡ Some (book_told f)) }
 {
-    if !block.is_expected::<S>() {
-        return Err(BookFault::Unexpected {
-            block: block.number,
-        });
-    }
+    block.check_place::<S>()?;
     let shape = Shape::new(block.bytes[6], number_of(block.bytes[7], block.bytes[8]));
     match shape {
         Some(lawful) if block.payload_len() == 3 => Ok(lawful.opened(0)),
@@ -103,11 +99,7 @@ impl Progress {
         requires { letter block.bytes.now ≡ 67 }
         ensures { MatchResult result (λ s. (columns_refusal S.kind self.shape self.read block.entry.number block.entry.bytes.now ≡ None) × (s ≡ opened self.shape (self.read + due self.shape self.read))) (λ f. columns_refusal S.kind self.shape self.read block.entry.number block.entry.bytes.now ≡ Some (book_told f)) }
     {
-        if !block.is_expected::<S>() {
-            return Err(BookFault::Unexpected {
-                block: block.number,
-            });
-        }
+        block.check_place::<S>()?;
         let due = self.due();
         if block.payload_len() != usize::from(due * u16::from(self.shape.tracks)) {
             return Err(BookFault::UndueColumns {

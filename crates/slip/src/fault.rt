@@ -1,11 +1,14 @@
 //! Why bytes are no slip, and why a slip is not written.
 
-ghost use Rattle.std.specs.Prelude.{◌≡◌};
+ghost use Rattle.std.specs.Prelude.{◌≡◌, Some};
+ghost use Rattle.book.specs.Describing.{refused};
 ghost use Rattle.slip.specs.Faults.{slip_told, slip_write_told};
 ghost use Rattle.slip.specs.declared.fault.SlipFault.TheVariants.{OfBlock};
 ghost use Rattle.slip.specs.declared.fault.SlipWriteFault.TheVariants.{OfOutput};
 
 use book::{BlockFault, Layer, Refusal, TooShort};
+use std::error::Error;
+use std::fmt;
 
 /// Why some bytes are no slip.
 #[derive(Clone, Copy, Debug, PartialEq, Eq)]
@@ -54,6 +57,16 @@ impl SlipFault {
     }
 }
 
+impl fmt::Display for SlipFault {
+    ghost output = { λ f. Some (refused (slip_told f)) };
+
+    fn fmt<W: fmt::Write>(&self, f: &mut fmt::Formatter<W>) -> fmt::Result {
+        write!(f, "{}", self.refusal())
+    }
+}
+
+impl Error for SlipFault {}
+
 /// Why a slip is not written.
 #[derive(Clone, Copy, Debug, PartialEq, Eq)]
 pub enum SlipWriteFault {
@@ -85,3 +98,13 @@ impl SlipWriteFault {
         }
     }
 }
+
+impl fmt::Display for SlipWriteFault {
+    ghost output = { λ f. Some (refused (slip_write_told f)) };
+
+    fn fmt<W: fmt::Write>(&self, f: &mut fmt::Formatter<W>) -> fmt::Result {
+        write!(f, "{}", self.refusal())
+    }
+}
+
+impl Error for SlipWriteFault {}
