@@ -1,5 +1,5 @@
 -- The question that is asked of a grid.
-use Rattle.std.proofs.Common.{◌≡◌, ℕ, ◌*◌, ◌≤◌, Bool, true, false, ◌&&◌, leb, List, map, length, Some, None, Ok, Err, Result, sym, refl, ap, ◌∙◌, arith, MatchResult}
+use Rattle.std.proofs.Common.{◌≡◌, ℕ, ◌≤◌, Bool, true, false, ◌&&◌, leb, List, map, length, Some, None, sym, refl, ap, ◌∙◌, arith}
 use Rattle.std.proofs.lemmas.Nat.{mul-le}
 use Rattle.std.proofs.lemmas.List.{length-map}
 use Rattle.std.proofs.lemmas.Bool.{leb-true, and_parts}
@@ -10,43 +10,35 @@ use Rattle.book.specs.declared.grid.Grid.{Grid}
 use Rattle.book.specs.declared.refusal.Layer.TheVariants.{Question as of-question}
 use Rattle.splitting.specs.Score.{Question}
 use Rattle.search.specs.Candidates.{Asked}
-use Rattle.search.specs.Columns.{columns_of}
-use Rattle.search.specs.Faults.{query_told}
-use Rattle.search.specs.Questions.{grid_question, question_refusal, Sized}
-use Rattle.search.specs.Queries.{query_refusal, list_refusal}
+use Rattle.search.specs.Questions.{grid_question, question_refusal}
+use Rattle.search.specs.Queries.{list_refusal}
 use Rattle.search.specs.Workspace.{workspace, workspace_of}
-use Rattle.search.specs.declared.fault.QueryFault.{QueryFault}
 use Rattle.search.proofs.Columns.{length_columns, symbols_of_columns}
 use Rattle.search.proofs.Refusing.{Sound, listed, then_kept, then_none, unless_none}
 
+pub few_symbols : {S : Type 0} (grid : Grid S) → length grid.symbols.now ≤ 65536
+few_symbols grid = omega (arith, grid.whole, mul-le grid.columns grid.tracks 4096 16 grid.few_columns grid.few_tracks)
+
 module _ {S : Type 0} (k : Kind) (byte : S → ℕ) (grid : Grid S) (mode : Mode) (query : List S) where
-  pub few_symbols : length grid.symbols.now ≤ 65536
-  few_symbols = omega (arith, grid.whole, mul-le grid.columns grid.tracks 4096 16 grid.few_columns grid.few_tracks)
+  pub same_workspace : workspace k mode (map byte grid.symbols.now) (map byte query) ≡ workspace_of (grid_question k byte grid 0 mode query)
+  same_workspace = ap (λ z. workspace k mode z (map byte query)) (sym (symbols_of_columns grid.tracks grid.columns (map byte grid.symbols.now) (length-map grid.symbols.now byte ∙ grid.whole)))
 
-  -- of symbols that are those of the grid
-  module _ (cells : List S) (are : cells ≡ grid.symbols.now) where
-    pub same_workspace : workspace k mode (map byte cells) (map byte query) ≡ workspace_of (grid_question k byte grid 0 mode query)
-    same_workspace = ap (λ z. workspace k mode z (map byte query)) (ap (map byte) are ∙ sym (symbols_of_columns grid.tracks grid.columns (map byte grid.symbols.now) (length-map grid.symbols.now byte ∙ grid.whole)))
-
-    pub sized : (r : Result ℕ QueryFault) → MatchResult r (λ n. (query_refusal (map byte query) ≡ None) × (n ≡ workspace k mode (map byte cells) (map byte query))) (λ f. query_refusal (map byte query) ≡ Some (query_told f)) → (limit : ℕ) → Sized (grid_question k byte grid limit mode query) r
-    sized (Ok n) h limit = (h.0, h.1 ∙ same_workspace)
-    sized (Err f) h limit = h
-
-    pub asked : KindLaws k → length query ≤ 64 → (limit tracks : ℕ) → tracks ≡ grid.tracks → Asked (grid_question k byte grid limit mode query) (map byte cells) tracks k mode limit (map byte query)
-    asked laws short limit tracks tracks-is =
-        record {
-          posed =
-              record {
-                columns = grid.columns;
-                score_is = λ j. columns_of (sym tracks-is j) grid.columns (map byte (sym are j));
-                size_is = length-map cells byte ∙ ap length are ∙ grid.whole ∙ ap (λ z. grid.columns * z) (sym tracks-is);
-                covered = record { kind_laws = laws; few = omega (arith, length_columns grid.tracks grid.columns (map byte grid.symbols.now), grid.few_columns); short = omega (arith, length-map query byte) };
-              };
-          kind_is = refl;
-          mode_is = refl;
-          limit_is = refl;
-          query_is = refl;
-        }
+  -- of notes that are those of the query
+  pub asked : KindLaws k → (notes : List S) → notes ≡ query → length notes ≤ 64 → (limit : ℕ) → Asked (grid_question k byte grid limit mode query) (map byte grid.symbols.now) grid.tracks k mode limit (map byte notes)
+  asked laws notes are short limit =
+      record {
+        posed =
+            record {
+              columns = grid.columns;
+              score_is = refl;
+              size_is = length-map grid.symbols.now byte ∙ grid.whole;
+              covered = record { kind_laws = laws; few = omega (arith, length_columns grid.tracks grid.columns (map byte grid.symbols.now), grid.few_columns); short = omega (arith, length-map query byte, ap length are) };
+            };
+        kind_is = refl;
+        mode_is = refl;
+        limit_is = refl;
+        query_is = ap (map byte) (sym are);
+      }
 
 -- the rule of a question whose query and list are granted, by what its sheets have room for
 module _ (ask : Question) (list a b c : ℕ) (granted : list_refusal ask.query list ≡ None) (size : ℕ) (size_is : size ≡ workspace_of ask) (hold : Bool) (holds : hold ≡ (leb size a && leb size b && leb size c)) where

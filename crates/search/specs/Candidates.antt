@@ -39,9 +39,8 @@ abbrev pub UnderCandidate : {P : Type 0} → Kind → Mode → List ℕ → ℕ 
 UnderCandidate kind mode bytes first None = Unit {0}
 UnderCandidate kind mode bytes first (Some o) = (b : ℕ) × Candidate kind mode bytes first b o.shift
 
--- a query of some notes, a list of a byte a note, and sheets with room for the rows under each candidate
+-- a list of a byte for each note of a query, and sheets with room for the rows under each candidate
 pub record Ready {P : Type 0} (kind : Kind) (mode : Mode) (bytes query : List ℕ) (want : ℕ) (sheets : Sheets P) : Type 0 where
-  pub some : 1 ≤ length query
   pub as_long : want ≡ length query
   pub room : Room (workspace kind mode bytes query) sheets
 

@@ -50,15 +50,10 @@ Sought m meaning ask rule before after untouched r =
     (λ answer. (rule ≡ None) × Answers ask m (meant meaning answer) before after)
     (λ f. (rule ≡ Some (question_told f)) × (after ≡ before) × untouched)
 
--- Some question is about the score whose symbols stand column after column. Its query has a note and at most as many as
--- the list has room for, and the sheets have room for the workspace.
+-- Some question is about the score whose symbols stand column after column. The list has room
+-- for a piece for each note of its query, and the sheets have room for the workspace.
 pub record Granted {P : Type 0} (bytes : List ℕ) (tracks : ℕ) (kind : Kind) (mode : Mode) (limit : ℕ) (query : List ℕ) (list : ℕ) (sheets : Sheets P) : Type 0 where
   pub ask : Question
   pub asked : Asked ask bytes tracks kind mode limit query
-  pub few_symbols : length bytes ≤ 65536
-  pub some_track : 1 ≤ tracks
-  pub few_tracks : tracks ≤ 16
-  pub some_note : 1 ≤ length query
-  pub few_notes : length query ≤ 64
   pub room_list : length query ≤ list
   pub room : Room (workspace kind mode bytes query) sheets

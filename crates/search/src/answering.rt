@@ -12,6 +12,8 @@ use super::question::Asking;
 use super::sheets::Sheets;
 use super::table::{Ground, count_later, link_places};
 use super::tally::Tally;
+use super::wanting::Want;
+use book::Grid;
 use notation::Symbol;
 use price::Price;
 use splitting::{Answer, Found, Piece};
@@ -24,13 +26,14 @@ fn answer_from<S: Symbol, P: Price>(
     list: &mut [Piece],
     sheets: &mut Sheets<P>,
 ) -> Answer<P>
-    requires granted { Granted (map S.byte ground.now.tally.cells.now) ground.now.tracks S.kind asking.now.mode asking.now.limit (map S.byte asking.now.query.now) (length list.old) sheets.old }
-    requires as_long { length want.old ≡ length asking.now.query.now }
-    ensures { (ask : Question) → Asked ask (map S.byte ground.now.tally.cells.now) ground.now.tracks S.kind asking.now.mode asking.now.limit (map S.byte asking.now.query.now) → Answers ask P.pricing (meant P.meaning result) list.old list.new }
+    requires granted { Granted (map S.byte ground.now.tally.cells.now) ground.now.tracks S.kind asking.now.mode asking.now.limit (map S.byte asking.now.query.notes.now) (length list.old) sheets.old }
+    requires as_long { length want.old ≡ length asking.now.query.notes.now }
+    ensures { (ask : Question) → Asked ask (map S.byte ground.now.tally.cells.now) ground.now.tracks S.kind asking.now.mode asking.now.limit (map S.byte asking.now.query.notes.now) → Answers ask P.pricing (meant P.meaning result) list.old list.new }
 {
     let Some(best) = settle(ground, asking, want, sheets) else {
         return Answer::None;
     };
+    let want = Want { bytes: want };
     let count = write_pieces::<S, P>(ground, want, sheets.steps, best.place, list);
     Answer::Found(Found {
         price: best.price,
@@ -40,31 +43,29 @@ fn answer_from<S: Symbol, P: Price>(
     })
 }
 
-// The answer to a question about symbols that stand column after column, by tables over their
-// places.
+// The answer to a question about the symbols of a grid, by tables over their places.
 pub(crate) fn answer<S: Symbol, P: Price>(
-    cells: &[S],
-    tracks: usize,
+    grid: &Grid<'_, S>,
     asking: &Asking<S>,
     list: &mut [Piece],
     sheets: &mut Sheets<P>,
 ) -> Answer<P>
-    requires { Granted (map S.byte cells.now) tracks S.kind asking.now.mode asking.now.limit (map S.byte asking.now.query.now) (length list.old) sheets.old }
-    ensures { (ask : Question) → Asked ask (map S.byte cells.now) tracks S.kind asking.now.mode asking.now.limit (map S.byte asking.now.query.now) → Answers ask P.pricing (meant P.meaning result) list.old list.new }
+    requires { Granted (map S.byte grid.now.symbols.now) grid.now.tracks S.kind asking.now.mode asking.now.limit (map S.byte asking.now.query.notes.now) (length list.old) sheets.old }
+    ensures { (ask : Question) → Asked ask (map S.byte grid.now.symbols.now) grid.now.tracks S.kind asking.now.mode asking.now.limit (map S.byte asking.now.query.notes.now) → Answers ask P.pricing (meant P.meaning result) list.old list.new }
 {
-    let tally = Tally::new(cells);
+    let tally = Tally::new(grid);
     let mut previous = [0u32; 65536];
     let mut after = [0u16; 65536];
-    let last = link_places(cells, &mut previous);
+    let last = link_places(&tally, &mut previous);
     count_later(&tally, &mut after);
     let ground = Ground {
-        tally,
-        tracks,
-        previous: &previous[..cells.len()],
+        tracks: grid.tracks(),
+        previous: &previous[..tally.cells.len()],
         after: &after,
         last: &last,
+        tally,
     };
     let mut want = [0u8; 64];
-    let notes = asking.query.len();
+    let notes = asking.query.notes.len();
     answer_from(&ground, asking, &mut want[..notes], list, sheets)
 }

@@ -13,7 +13,7 @@ use super::rows::fill_rows;
 use super::sheets::Sheets;
 use super::table::Ground;
 use super::topping::best_under;
-use super::wanting::want_bytes;
+use super::wanting::{Want, want_bytes};
 use notation::Symbol;
 use price::Price;
 
@@ -55,16 +55,17 @@ fn best_to<S: Symbol, P: Price>(
     want: &mut [u8],
     sheets: &mut Sheets<P>,
 ) -> Option<Choice<P>>
-    requires { Ready S.kind asking.now.mode (map S.byte ground.now.tally.cells.now) (map S.byte asking.now.query.now) (length want.old) sheets.old }
+    requires { Ready S.kind asking.now.mode (map S.byte ground.now.tally.cells.now) (map S.byte asking.now.query.notes.now) (length want.old) sheets.old }
     ensures as_long { AsLong sheets.old sheets.new }
-    ensures under { UnderCandidate S.kind asking.now.mode (map S.byte ground.now.tally.cells.now) (note (map S.byte asking.now.query.now) 1) result }
-    ensures best { (ask : Question) → Asked ask (map S.byte ground.now.tally.cells.now) ground.now.tracks S.kind asking.now.mode asking.now.limit (map S.byte asking.now.query.now) → Among P.pricing P.meaning ask ground.now.tracks b (b + 1) result }
+    ensures under { UnderCandidate S.kind asking.now.mode (map S.byte ground.now.tally.cells.now) (note (map S.byte asking.now.query.notes.now) 1) result }
+    ensures best { (ask : Question) → Asked ask (map S.byte ground.now.tally.cells.now) ground.now.tracks S.kind asking.now.mode asking.now.limit (map S.byte asking.now.query.notes.now) → Among P.pricing P.meaning ask ground.now.tracks b (b + 1) result }
 {
-    let by = ground.tally.candidate_to(asking.mode, asking.query, b)?;
-    if !want_bytes(asking.query, by, want) {
+    let by = ground.tally.candidate_to(asking.mode, &asking.query, b)?;
+    if !want_bytes(asking.query.notes, by, want) {
         return None;
     }
-    if !ground.tally.holds_all(want) {
+    let want = Want { bytes: want };
+    if !ground.tally.holds_all(want.bytes) {
         return None;
     }
     let best = best_under(ground, want, asking.limit, sheets)?;
@@ -82,10 +83,10 @@ pub(crate) fn best_of_all<S: Symbol, P: Price>(
     want: &mut [u8],
     sheets: &mut Sheets<P>,
 ) -> Option<Choice<P>>
-    requires { Ready S.kind asking.now.mode (map S.byte ground.now.tally.cells.now) (map S.byte asking.now.query.now) (length want.old) sheets.old }
+    requires { Ready S.kind asking.now.mode (map S.byte ground.now.tally.cells.now) (map S.byte asking.now.query.notes.now) (length want.old) sheets.old }
     ensures as_long { AsLong sheets.old sheets.new }
-    ensures under { UnderCandidate S.kind asking.now.mode (map S.byte ground.now.tally.cells.now) (note (map S.byte asking.now.query.now) 1) result }
-    ensures best { (ask : Question) → Asked ask (map S.byte ground.now.tally.cells.now) ground.now.tracks S.kind asking.now.mode asking.now.limit (map S.byte asking.now.query.now) → OfAll P.pricing P.meaning ask ground.now.tracks result }
+    ensures under { UnderCandidate S.kind asking.now.mode (map S.byte ground.now.tally.cells.now) (note (map S.byte asking.now.query.notes.now) 1) result }
+    ensures best { (ask : Question) → Asked ask (map S.byte ground.now.tally.cells.now) ground.now.tracks S.kind asking.now.mode asking.now.limit (map S.byte asking.now.query.notes.now) → OfAll P.pricing P.meaning ask ground.now.tracks result }
 {
     let mut best = None;
     for b in u8::MIN..=u8::MAX {
@@ -104,14 +105,15 @@ pub(crate) fn refill<S: Symbol, P: Price>(
     want: &mut [u8],
     sheets: &mut Sheets<P>,
 ) -> Option<Choice<P>>
-    requires ready { Ready S.kind asking.now.mode (map S.byte ground.now.tally.cells.now) (map S.byte asking.now.query.now) (length want.old) sheets.old }
-    requires under { UnderCandidate S.kind asking.now.mode (map S.byte ground.now.tally.cells.now) (note (map S.byte asking.now.query.now) 1) (Some choice) }
+    requires ready { Ready S.kind asking.now.mode (map S.byte ground.now.tally.cells.now) (map S.byte asking.now.query.notes.now) (length want.old) sheets.old }
+    requires under { UnderCandidate S.kind asking.now.mode (map S.byte ground.now.tally.cells.now) (note (map S.byte asking.now.query.notes.now) 1) (Some choice) }
     ensures as_long { AsLong sheets.old sheets.new }
-    ensures settles { (ask : Question) → Asked ask (map S.byte ground.now.tally.cells.now) ground.now.tracks S.kind asking.now.mode asking.now.limit (map S.byte asking.now.query.now) → BestOfAll P.pricing P.meaning ask ground.now.tracks choice → Settles P.pricing P.meaning ask ground.now.tracks (map S.byte ground.now.tally.cells.now) asking.now.limit want.new sheets.new.prices.now sheets.new.steps.now result }
+    ensures settles { (ask : Question) → Asked ask (map S.byte ground.now.tally.cells.now) ground.now.tracks S.kind asking.now.mode asking.now.limit (map S.byte asking.now.query.notes.now) → BestOfAll P.pricing P.meaning ask ground.now.tracks choice → Settles P.pricing P.meaning ask ground.now.tracks (map S.byte ground.now.tally.cells.now) asking.now.limit want.new sheets.new.prices.now sheets.new.steps.now result }
 {
-    if !want_bytes(asking.query, choice.shift, want) {
+    if !want_bytes(asking.query.notes, choice.shift, want) {
         return None;
     }
+    let want = Want { bytes: want };
     let row = fill_rows(ground, want, asking.limit, sheets);
     let prices = &mut *sheets.prices;
     let price = ground.price_at(row, prices, choice.place)?;
@@ -120,15 +122,16 @@ pub(crate) fn refill<S: Symbol, P: Price>(
 
 // The cheapest rest of the whole query over all candidates, of equals the one that begins earliest,
 // with the rows under its transposition.
+// Stays: of a struct of all four, each method would have to say which of its parts it leaves.
 pub(crate) fn settle<S: Symbol, P: Price>(
     ground: &Ground<S>,
     asking: &Asking<S>,
     want: &mut [u8],
     sheets: &mut Sheets<P>,
 ) -> Option<Choice<P>>
-    requires { Ready S.kind asking.now.mode (map S.byte ground.now.tally.cells.now) (map S.byte asking.now.query.now) (length want.old) sheets.old }
+    requires { Ready S.kind asking.now.mode (map S.byte ground.now.tally.cells.now) (map S.byte asking.now.query.notes.now) (length want.old) sheets.old }
     ensures as_long { AsLong sheets.old sheets.new }
-    ensures settles { (ask : Question) → Asked ask (map S.byte ground.now.tally.cells.now) ground.now.tracks S.kind asking.now.mode asking.now.limit (map S.byte asking.now.query.now) → Settles P.pricing P.meaning ask ground.now.tracks (map S.byte ground.now.tally.cells.now) asking.now.limit want.new sheets.new.prices.now sheets.new.steps.now result }
+    ensures settles { (ask : Question) → Asked ask (map S.byte ground.now.tally.cells.now) ground.now.tracks S.kind asking.now.mode asking.now.limit (map S.byte asking.now.query.notes.now) → Settles P.pricing P.meaning ask ground.now.tracks (map S.byte ground.now.tally.cells.now) asking.now.limit want.new sheets.new.prices.now sheets.new.steps.now result }
 {
     let best = best_of_all(ground, asking, want, sheets)?;
     refill(ground, asking, best, want, sheets)

@@ -28,9 +28,8 @@ pub(crate) fn hand_over<P: Price>(window: &mut Window<P>, from: u32) -> Option<O
         return None;
     };
     let entry = told?;
-    let gap = entry.position.saturating_sub(from).saturating_sub(1);
     Some(Over {
-        price: entry.price.charged(gap),
+        price: entry.price.charged(entry.gap_from(from)),
         place: entry.place,
     })
 }

@@ -1,13 +1,16 @@
 //! Why a query, a question or a transposition is refused. Faults nest as the checks do: those of
 //! the query come first, then that of the list, then those of what is asked.
 
-ghost use Rattle.std.specs.Prelude.{◌≡◌};
+ghost use Rattle.std.specs.Prelude.{◌≡◌, Some};
+ghost use Rattle.book.specs.Describing.{refused};
 ghost use Rattle.search.specs.Faults.{query_told, list_told, question_told, transpose_told};
 ghost use Rattle.search.specs.declared.fault.ListFault.TheVariants.{OfQuery};
 ghost use Rattle.search.specs.declared.fault.QuestionFault.TheVariants.{OfList as QuestionList};
 ghost use Rattle.search.specs.declared.fault.TransposeFault.TheVariants.{OfList as TransposeList};
 
 use book::{Layer, Refusal};
+use std::error::Error;
+use std::fmt;
 
 /// Why a query is refused.
 #[derive(Clone, Copy, Debug, PartialEq, Eq)]
@@ -33,6 +36,16 @@ impl QueryFault {
         }
     }
 }
+
+impl fmt::Display for QueryFault {
+    ghost output = { λ f. Some (refused (query_told f)) };
+
+    fn fmt<W: fmt::Write>(&self, f: &mut fmt::Formatter<W>) -> fmt::Result {
+        write!(f, "{}", self.refusal())
+    }
+}
+
+impl Error for QueryFault {}
 
 /// Why a query is refused together with the list that is to take up to one entry for each note.
 #[derive(Clone, Copy, Debug, PartialEq, Eq)]
@@ -66,6 +79,16 @@ impl ListFault {
     }
 }
 
+impl fmt::Display for ListFault {
+    ghost output = { λ f. Some (refused (list_told f)) };
+
+    fn fmt<W: fmt::Write>(&self, f: &mut fmt::Formatter<W>) -> fmt::Result {
+        write!(f, "{}", self.refusal())
+    }
+}
+
+impl Error for ListFault {}
+
 /// Why a question is refused.
 #[derive(Clone, Copy, Debug, PartialEq, Eq)]
 pub enum QuestionFault {
@@ -98,6 +121,16 @@ impl QuestionFault {
     }
 }
 
+impl fmt::Display for QuestionFault {
+    ghost output = { λ f. Some (refused (question_told f)) };
+
+    fn fmt<W: fmt::Write>(&self, f: &mut fmt::Formatter<W>) -> fmt::Result {
+        write!(f, "{}", self.refusal())
+    }
+}
+
+impl Error for QuestionFault {}
+
 /// Why a query is not transposed.
 #[derive(Clone, Copy, Debug, PartialEq, Eq)]
 pub enum TransposeFault {
@@ -129,3 +162,13 @@ impl TransposeFault {
         }
     }
 }
+
+impl fmt::Display for TransposeFault {
+    ghost output = { λ f. Some (refused (transpose_told f)) };
+
+    fn fmt<W: fmt::Write>(&self, f: &mut fmt::Formatter<W>) -> fmt::Result {
+        write!(f, "{}", self.refusal())
+    }
+}
+
+impl Error for TransposeFault {}

@@ -1,15 +1,16 @@
 //! Questions about the symbols of a score: what workspace they ask for, and their answers.
 
-ghost use Rattle.std.specs.Prelude.{◌≡◌, ℕ, length, Some, None, MatchResult};
+ghost use Rattle.std.specs.Prelude.{◌≡◌, ℕ, map, length, Some, None, MatchResult};
 ghost use Rattle.search.specs.Faults.{question_told};
+ghost use Rattle.search.specs.Queries.{list_refusal};
 ghost use Rattle.search.specs.Questions.{grid_question, question_refusal, Sized, Sought};
 
 use super::answering::answer;
 use super::fault::{ListFault, QueryFault, QuestionFault};
-use super::query::check_list;
+use super::query::{check_list, check_query};
 use super::question::Asking;
 use super::sheets::Sheets;
-use super::size;
+use super::tally::Tally;
 use book::Grid;
 use notation::{Mode, Symbol};
 use price::{Entry, Price};
@@ -23,21 +24,20 @@ pub fn workspace_size<S: Symbol>(
 ) -> Result<usize, QueryFault>
     ensures { (limit : ℕ) → Sized (grid_question S.kind S.byte grid.now limit mode query.now) result }
 {
-    size::workspace_size(grid.symbols(), mode, query)
+    let query = check_query(query)?;
+    Ok(Tally::new(grid).workspace(mode, &query))
 }
 
-// Checks a question: its query and its list, then each of its sheets against the workspace. No
-// rule speaks of the limit.
-fn check_question<S: Symbol, P>(
+// Checks each of the sheets against the workspace of a question whose query and list are checked.
+// No rule speaks of the limit.
+fn check_sheets<S: Symbol, P>(
     grid: &Grid<'_, S>,
     asking: &Asking<S>,
-    list: usize,
     sheets: &Sheets<P>,
 ) -> Result<(), QuestionFault>
-    ensures { MatchResult result (λ _. question_refusal (grid_question S.kind S.byte grid.now 0 asking.now.mode asking.now.query.now) list (length sheets.now.prices.now) (length sheets.now.window.now) (length sheets.now.steps.now) ≡ None) (λ f. question_refusal (grid_question S.kind S.byte grid.now 0 asking.now.mode asking.now.query.now) list (length sheets.now.prices.now) (length sheets.now.window.now) (length sheets.now.steps.now) ≡ Some (question_told f)) }
+    ensures { (list : ℕ) → list_refusal (map S.byte asking.now.query.notes.now) list ≡ None → MatchResult result (λ _. question_refusal (grid_question S.kind S.byte grid.now 0 asking.now.mode asking.now.query.notes.now) list (length sheets.now.prices.now) (length sheets.now.window.now) (length sheets.now.steps.now) ≡ None) (λ f. question_refusal (grid_question S.kind S.byte grid.now 0 asking.now.mode asking.now.query.notes.now) list (length sheets.now.prices.now) (length sheets.now.window.now) (length sheets.now.steps.now) ≡ Some (question_told f)) }
 {
-    check_list(asking.query, list)?;
-    let size = size::size_asked(grid.symbols(), asking.mode, asking.query);
+    let size = Tally::new(grid).workspace(asking.mode, &asking.query);
     if !sheets.hold(size) {
         return Err(QuestionFault::ShortSheet { size });
     }
@@ -58,12 +58,13 @@ pub fn find<S: Symbol, P: Price>(
 ) -> Result<Answer<P>, QuestionFault>
     ensures { Sought P.pricing P.meaning (grid_question S.kind S.byte grid.now limit mode query.now) (question_refusal (grid_question S.kind S.byte grid.now limit mode query.now) (length list.old) (length prices.old) (length window.old) (length steps.old)) list.old list.new ((prices.new ≡ prices.old) × (window.new ≡ window.old) × (steps.new ≡ steps.old)) result }
 {
+    let query = check_list(query, list.len())?;
     let asking = Asking { mode, query, limit };
     let mut sheets = Sheets {
         prices,
         steps,
         window,
     };
-    check_question(grid, &asking, list.len(), &sheets)?;
-    Ok(answer(grid.symbols(), grid.tracks(), &asking, list, &mut sheets))
+    check_sheets(grid, &asking, &sheets)?;
+    Ok(answer(grid, &asking, list, &mut sheets))
 }

@@ -8,6 +8,7 @@ ghost use Rattle.search.specs.Trails.{Trail, Written, Leading};
 
 use super::choosing::GOING_ON;
 use super::table::Ground;
+use super::wanting::Want;
 use notation::Symbol;
 use price::Price;
 use splitting::{Piece, Place};
@@ -43,22 +44,21 @@ impl<'a, S: Symbol> Ground<'a, S> {
 // through into the front of the list, and tells their number.
 pub(crate) fn write_pieces<S: Symbol, P: Price>(
     ground: &Ground<S>,
-    want: &[u8],
+    want: Want<'_>,
     steps: &[u32],
     start: usize,
     list: &mut [Piece],
 ) -> usize
-    requires some_note { 1 ≤ length want.now }
-    requires room_list { length want.now ≤ length list.old }
-    requires room_steps { sum_by (λ b. count_by (nat_eq b) (map S.byte ground.now.tally.cells.now)) want.now ≤ length steps.now }
-    requires leading { Leading P.pricing P.meaning (map S.byte ground.now.tally.cells.now) ground.now.tracks want.now steps.now start }
-    ensures { (ask : Question) (c : ℤ) (prices : List (Option P)) (a : P) → Trail P.pricing P.meaning (map S.byte ground.now.tally.cells.now) ground.now.tracks want.now steps.now start ask c prices a → Written P.pricing ask c (place_at ground.now.tracks start) (P.meaning a) result list.old list.new }
+    requires room_list { length want.bytes.now ≤ length list.old }
+    requires room_steps { sum_by (λ b. count_by (nat_eq b) (map S.byte ground.now.tally.cells.now)) want.bytes.now ≤ length steps.now }
+    requires leading { Leading P.pricing P.meaning (map S.byte ground.now.tally.cells.now) ground.now.tracks want.bytes.now steps.now start }
+    ensures { (ask : Question) (c : ℤ) (prices : List (Option P)) (a : P) → Trail P.pricing P.meaning (map S.byte ground.now.tally.cells.now) ground.now.tracks want.entry.bytes.now steps.now start ask c prices a → Written P.pricing ask c (place_at ground.now.tracks start) (P.meaning a) result list.old list.new }
 {
     let mut offset = ground.first_offset(want);
     let mut place = start;
     let mut open = ground.lone(1, start);
     let mut count = 0;
-    for byte in &want[1..] {
+    for byte in &want.bytes[1..] {
         let step = steps[offset + ground.after[place] as usize];
         offset -= ground.tally.count(*byte);
         if step == GOING_ON {

@@ -7,6 +7,7 @@ ghost use Rattle.search.specs.Sheets.{Room, AsLong};
 use super::row::{Row, fill_last, fill_row};
 use super::sheets::Sheets;
 use super::table::Ground;
+use super::wanting::Want;
 use notation::Symbol;
 use price::Price;
 
@@ -23,12 +24,11 @@ impl<'a, S: Symbol> Ground<'a, S> {
     }
 
     /// Where the row of the first note begins: behind those of all others.
-    pub(crate) fn first_offset(&self, want: &[u8]) -> usize
-        requires some_note { 1 ≤ length want.now }
-        requires fits { offset_of (map S.byte self.now.tally.cells.now) want.now 0 < 2 ^ 64 }
-        ensures { result ≡ offset_of (map S.byte self.now.tally.cells.now) want.now 0 }
+    pub(crate) fn first_offset(&self, want: Want<'_>) -> usize
+        requires { offset_of (map S.byte self.now.tally.cells.now) want.bytes.now 0 < 2 ^ 64 }
+        ensures { result ≡ offset_of (map S.byte self.now.tally.cells.now) want.entry.bytes.now 0 }
     {
-        want[1..].iter().map(|b| self.tally.count(*b)).sum()
+        want.bytes[1..].iter().map(|b| self.tally.count(*b)).sum()
     }
 }
 
@@ -36,23 +36,22 @@ impl<'a, S: Symbol> Ground<'a, S> {
 // the row of the first.
 pub(crate) fn fill_rows<S: Symbol, P: Price>(
     ground: &Ground<S>,
-    want: &[u8],
+    want: Want<'_>,
     limit: u32,
     sheets: &mut Sheets<P>,
 ) -> Row
-    requires some_note { 1 ≤ length want.now }
-    requires room { Room (sum_by (λ b. count_by (nat_eq b) (map S.byte ground.now.tally.cells.now)) want.now) sheets.old }
+    requires { Room (sum_by (λ b. count_by (nat_eq b) (map S.byte ground.now.tally.cells.now)) want.bytes.now) sheets.old }
     ensures as_long { AsLong sheets.old sheets.new }
-    ensures first { result ≡ record { byte = slice_index want.now 0; offset = offset_of (map S.byte ground.now.tally.cells.now) want.now 0 } }
-    ensures rows { RowsRight P.pricing P.meaning (map S.byte ground.now.tally.cells.now) ground.now.tracks limit want.now sheets.new.prices.now sheets.new.steps.now 0 }
+    ensures first { result ≡ record { byte = slice_index want.entry.bytes.now 0; offset = offset_of (map S.byte ground.now.tally.cells.now) want.entry.bytes.now 0 } }
+    ensures rows { RowsRight P.pricing P.meaning (map S.byte ground.now.tally.cells.now) ground.now.tracks limit want.entry.bytes.now sheets.new.prices.now sheets.new.steps.now 0 }
 {
-    let last = want.len() - 1;
+    let last = want.bytes.len() - 1;
     let mut row = Row {
-        byte: want[last],
+        byte: want.bytes[last],
         offset: 0,
     };
     fill_last(ground, row, sheets.prices);
-    for byte in want[..last].iter().rev() {
+    for byte in want.bytes[..last].iter().rev() {
         let next = row;
         row = ground.row_before(*byte, next);
         fill_row(ground, row, next, limit, sheets);

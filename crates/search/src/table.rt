@@ -28,14 +28,14 @@ pub(crate) struct Ground<'a, S: Symbol> {
 
 // Links each place to the last one before it that holds the same byte, and tells the mark of each
 // byte below the end.
-pub(crate) fn link_places<S: Symbol>(cells: &[S], previous: &mut [u32]) -> [u32; 256]
-    requires { (length cells.now ≤ 65536) × (length cells.now ≤ length previous.old) }
-    ensures linked { Linked (map S.byte cells.now) previous.new (length (map S.byte cells.now)) }
-    ensures marks { Marks (map S.byte cells.now) result (length (map S.byte cells.now)) }
+pub(crate) fn link_places<S: Symbol>(tally: &Tally<S>, previous: &mut [u32]) -> [u32; 256]
+    requires { length tally.now.cells.now ≤ length previous.old }
+    ensures linked { Linked (map S.byte tally.now.cells.now) previous.new (length (map S.byte tally.now.cells.now)) }
+    ensures marks { Marks (map S.byte tally.now.cells.now) result (length (map S.byte tally.now.cells.now)) }
 {
     let mut last = [0u32; 256];
     // Stays: tried `zip` with `iter_mut`, of whose writes the library tells no element.
-    for (p, s) in cells.iter().enumerate() {
+    for (p, s) in tally.cells.iter().enumerate() {
         let b = s.write() as usize;
         previous[p] = last[b];
         last[b] = p as u32 + 1;

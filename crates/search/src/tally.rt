@@ -3,6 +3,7 @@
 ghost use Rattle.std.specs.Prelude.{◌≡◌, ℕ, ◌<◌, ◌≤◌, true, false, map, length, count_by, nat_eq, slice_index};
 ghost use Rattle.search.specs.Workspace.{Counted};
 
+use book::Grid;
 use notation::Symbol;
 
 /// A score's symbols, column after column, and how often each byte occurs among them.
@@ -15,10 +16,11 @@ pub(crate) struct Tally<'a, S: Symbol> {
 }
 
 impl<'a, S: Symbol> Tally<'a, S> {
-    pub(crate) fn new(cells: &'a [S]) -> Tally<'a, S>
-        requires { length cells.now ≤ 65536 }
-        ensures { result.cells.now ≡ cells.now }
+    /// The tally of the symbols of a grid.
+    pub(crate) fn new(grid: &'a Grid<'_, S>) -> Tally<'a, S>
+        ensures { result.cells.now ≡ grid.now.symbols.now }
     {
+        let cells = grid.symbols();
         let mut counts = [0u32; 256];
         for s in cells {
             counts[s.write() as usize] += 1;

@@ -11,6 +11,7 @@ use super::row::Row;
 use super::rows::fill_rows;
 use super::sheets::Sheets;
 use super::table::Ground;
+use super::wanting::Want;
 use notation::Symbol;
 use price::Price;
 
@@ -58,15 +59,14 @@ pub(crate) fn best_of<S: Symbol, P: Price>(
 // query, of equals the one that begins earliest.
 pub(crate) fn best_under<S: Symbol, P: Price>(
     ground: &Ground<S>,
-    want: &[u8],
+    want: Want<'_>,
     limit: u32,
     sheets: &mut Sheets<P>,
 ) -> Option<Best<P>>
-    requires some_note { 1 ≤ length want.now }
-    requires room { Room (sum_by (λ b. count_by (nat_eq b) (map S.byte ground.now.tally.cells.now)) want.now) sheets.old }
+    requires { Room (sum_by (λ b. count_by (nat_eq b) (map S.byte ground.now.tally.cells.now)) want.bytes.now) sheets.old }
     ensures as_long { AsLong sheets.old sheets.new }
-    ensures rows { RowsRight P.pricing P.meaning (map S.byte ground.now.tally.cells.now) ground.now.tracks limit want.now sheets.new.prices.now sheets.new.steps.now 0 }
-    ensures best { (ask : Question) (c : ℤ) → Posed ask (map S.byte ground.now.tally.cells.now) ground.now.tracks → ask.limit ≡ limit → Wanted ask c want.now → BestUnder P.pricing P.meaning ask c ground.now.tracks result }
+    ensures rows { RowsRight P.pricing P.meaning (map S.byte ground.now.tally.cells.now) ground.now.tracks limit want.entry.bytes.now sheets.new.prices.now sheets.new.steps.now 0 }
+    ensures best { (ask : Question) (c : ℤ) → Posed ask (map S.byte ground.now.tally.cells.now) ground.now.tracks → ask.limit ≡ limit → Wanted ask c want.entry.bytes.now → BestUnder P.pricing P.meaning ask c ground.now.tracks result }
 {
     let row = fill_rows(ground, want, limit, sheets);
     let prices = &mut *sheets.prices;

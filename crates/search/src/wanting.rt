@@ -5,6 +5,13 @@ ghost use Rattle.notation.specs.Kind.{rest};
 
 use notation::Symbol;
 
+/// The byte that each note of a query wants, of at least one.
+#[derive(Clone, Copy)]
+pub(crate) struct Want<'a> {
+    pub(crate) bytes: &'a [u8],
+    ghost some: { 1 ≤ length bytes.now },
+}
+
 // Writes the byte that each note wants into the front of a list, as far as there are such bytes,
 // and tells whether every note has one. A note matches exactly where its byte stands.
 pub(crate) fn want_bytes<S: Symbol>(query: &[S], by: i32, want: &mut [u8]) -> bool

@@ -14,7 +14,7 @@ ghost use Rattle.splitting.specs.Minimum.{FewestPieces, ChangesCounted};
 use price::Price;
 
 /// Where a note lies: its column and its track, both counted from 1.
-#[derive(Clone, Copy, Debug, PartialEq, Eq)]
+#[derive(Clone, Copy, Debug, Default, PartialEq, Eq)]
 pub struct Place {
     pub column: usize,
     pub track: usize,
@@ -22,7 +22,7 @@ pub struct Place {
 
 /// A part of a query that lies unbroken on one track: the first of its notes, how many they are,
 /// the track, and the column of the first. Notes, tracks and columns count from 1.
-#[derive(Clone, Copy, Debug, PartialEq, Eq)]
+#[derive(Clone, Copy, Debug, Default, PartialEq, Eq)]
 pub struct Piece {
     pub first: usize,
     pub len: usize,

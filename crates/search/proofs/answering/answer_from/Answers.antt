@@ -12,7 +12,7 @@ returns-in_default g c =
     let limit = c.args.asking.now.limit in
     let x = c.args.ground.now in
     let bytes = map g.S.Symbol.byte x.tally.cells.now in
-    let query = map g.S.Symbol.byte c.args.asking.now.query.now in
+    let query = map g.S.Symbol.byte c.args.asking.now.query.notes.now in
     let m = g.P.Price.pricing in
     let meaning = g.P.Price.meaning in
     λ ask asked. (none_told bytes query k mode limit x.tracks m g.met.P.Price.lawful meaning ask asked (c.in_default.ensures.settles ask asked), refl)
@@ -24,7 +24,7 @@ write_pieces-count-requires g c =
     let limit = c.args.asking.now.limit in
     let x = c.args.ground.now in
     let bytes = map g.S.Symbol.byte x.tally.cells.now in
-    let query = map g.S.Symbol.byte c.args.asking.now.query.now in
+    let query = map g.S.Symbol.byte c.args.asking.now.query.notes.now in
     let m = g.P.Price.pricing in
     let meaning = g.P.Price.meaning in
     let granted = c.requires.granted in
@@ -34,10 +34,9 @@ write_pieces-count-requires g c =
     let o = c.in-Some.best in
     let settled = c.in-Some.ensures.settles granted.ask granted.asked in
     let long = c.in-Some.ensures.as_long in
-    let n = length-map c.args.asking.now.query.now g.S.Symbol.byte in
-    let room = settled_room bytes query k mode limit x.tracks m g.met.P.Price.lawful meaning granted.ask granted.asked want prices steps o settled x.some_track g.met.S.Symbol.lawful granted.some_note in
+    let n = length-map c.args.asking.now.query.notes.now g.S.Symbol.byte in
+    let room = settled_room bytes query k mode limit x.tracks m g.met.P.Price.lawful meaning granted.ask granted.asked want prices steps o settled x.some_track g.met.S.Symbol.lawful (omega (arith, c.args.asking.now.query.some)) in
     record {
-      some_note = omega (arith, c.settle.auto.want, c.requires.as_long, granted.some_note);
       room_list = omega (arith, c.settle.auto.want, c.requires.as_long, granted.room_list);
       room_steps = omega (arith, long.steps, granted.room.steps, room);
       leading = (granted.ask, o.shift, prices, o.price, settled_trail bytes query k mode limit x.tracks m g.met.P.Price.lawful meaning granted.ask granted.asked want prices steps o settled);
@@ -50,7 +49,7 @@ place_of-requires g c =
     let limit = c.args.asking.now.limit in
     let x = c.args.ground.now in
     let bytes = map g.S.Symbol.byte x.tally.cells.now in
-    let query = map g.S.Symbol.byte c.args.asking.now.query.now in
+    let query = map g.S.Symbol.byte c.args.asking.now.query.notes.now in
     let m = g.P.Price.pricing in
     let meaning = g.P.Price.meaning in
     let granted = c.requires.granted in
@@ -59,7 +58,7 @@ place_of-requires g c =
     let steps = c.settle.new.sheets.steps.now in
     let o = c.in-Some.best in
     let settled = c.in-Some.ensures.settles granted.ask granted.asked in
-    omega (arith, settled_place bytes query k mode limit x.tracks m g.met.P.Price.lawful meaning granted.ask granted.asked want prices steps o settled, granted.few_symbols)
+    omega (arith, settled_place bytes query k mode limit x.tracks m g.met.P.Price.lawful meaning granted.ask granted.asked want prices steps o settled, x.tally.few, length-map x.tally.cells.now g.S.Symbol.byte)
 
 pub returns : goal.returns
 returns g c =
@@ -68,7 +67,7 @@ returns g c =
     let limit = c.args.asking.now.limit in
     let x = c.args.ground.now in
     let bytes = map g.S.Symbol.byte x.tally.cells.now in
-    let query = map g.S.Symbol.byte c.args.asking.now.query.now in
+    let query = map g.S.Symbol.byte c.args.asking.now.query.notes.now in
     let m = g.P.Price.pricing in
     let meaning = g.P.Price.meaning in
     let want = c.settle.new.want in

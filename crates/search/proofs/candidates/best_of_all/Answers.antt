@@ -8,7 +8,7 @@ pub loop-b-preserved : goal.loop-b-preserved
 loop-b-preserved g c =
     let b = c.loop-b.b in
     let x = c.args.ground.now in
-    let first = note (map g.S.Symbol.byte c.args.asking.now.query.now) 1 in
+    let first = note (map g.S.Symbol.byte c.args.asking.now.query.notes.now) 1 in
     let long = c.best_to-here.ensures.as_long in
     let old = c.loop-b.invariant.0 in (
       record { prices = long.prices ∙ old.prices; steps = long.steps ∙ old.steps; window = long.window ∙ old.window },
@@ -23,7 +23,7 @@ returns-2 g c =
     let b = c.loop-b.b in
     let x = c.args.ground.now in
     let bytes = map g.S.Symbol.byte x.tally.cells.now in
-    let first = note (map g.S.Symbol.byte c.args.asking.now.query.now) 1 in
+    let first = note (map g.S.Symbol.byte c.args.asking.now.query.notes.now) 1 in
     let long = c.best_to-here.ensures.as_long in
     let old = c.loop-b.invariant.0 in
     let last : b + 1 ≡ 256 = omega arith in

@@ -7,5 +7,5 @@ use Rattle.search.proofs.candidates.best_of_all.Given as goal
 abbrev pub invariant-loop-b : goal.invariant-loop-b
 invariant-loop-b g l =
     AsLong l.initial.sheets l.sheets
-    × UnderCandidate g.S.Symbol.kind l.asking.mode (map g.S.Symbol.byte l.ground.tally.cells.now) (note (map g.S.Symbol.byte l.asking.query.now) 1) l.best
-    × ((ask : Question) → Asked ask (map g.S.Symbol.byte l.ground.tally.cells.now) l.ground.tracks g.S.Symbol.kind l.asking.mode l.asking.limit (map g.S.Symbol.byte l.asking.query.now) → Among g.P.Price.pricing g.P.Price.meaning ask l.ground.tracks 0 l.b l.best)
+    × UnderCandidate g.S.Symbol.kind l.asking.mode (map g.S.Symbol.byte l.ground.tally.cells.now) (note (map g.S.Symbol.byte l.asking.query.notes.now) 1) l.best
+    × ((ask : Question) → Asked ask (map g.S.Symbol.byte l.ground.tally.cells.now) l.ground.tracks g.S.Symbol.kind l.asking.mode l.asking.limit (map g.S.Symbol.byte l.asking.query.notes.now) → Among g.P.Price.pricing g.P.Price.meaning ask l.ground.tracks 0 l.b l.best)

@@ -19,7 +19,7 @@ returns-in_err-by-clause-best g c =
     let mode = c.args.asking.now.mode in
     let x = c.args.ground.now in
     let bytes = map g.S.Symbol.byte x.tally.cells.now in
-    let query = map g.S.Symbol.byte c.args.asking.now.query.now in
+    let query = map g.S.Symbol.byte c.args.asking.now.query.notes.now in
     λ ask asked. subst (Among g.P.Price.pricing g.P.Price.meaning ask x.tracks c.args.b (c.args.b + 1)) (sym c.from_residual.ensures) (no_candidate bytes query k mode c.args.asking.now.limit x.tracks c.args.b x.some_track g.P.Price.pricing g.P.Price.meaning ask asked c.in_err-by.ensures)
 
 pub returns-then-not-want_bytes-clause-best : goal.returns-then-not-want_bytes-clause-best
@@ -28,8 +28,8 @@ returns-then-not-want_bytes-clause-best g c =
     let mode = c.args.asking.now.mode in
     let x = c.args.ground.now in
     let bytes = map g.S.Symbol.byte x.tally.cells.now in
-    let query = map g.S.Symbol.byte c.args.asking.now.query.now in
-    let n = length-map c.args.asking.now.query.now g.S.Symbol.byte in
+    let query = map g.S.Symbol.byte c.args.asking.now.query.notes.now in
+    let n = length-map c.args.asking.now.query.notes.now g.S.Symbol.byte in
     let by = to_z w32 (of_z w32 c.in_ok-by.by) in
     let candidate = carried k mode bytes (note query 1) c.args.b c.in_ok-by.by (search rules) c.in_ok-by.ensures in
     let lacking = c.want_bytes.ensures.lacking c.if-not-want_bytes.true in
@@ -41,8 +41,8 @@ returns-then-not-holds_all-clause-best g c =
     let mode = c.args.asking.now.mode in
     let x = c.args.ground.now in
     let bytes = map g.S.Symbol.byte x.tally.cells.now in
-    let query = map g.S.Symbol.byte c.args.asking.now.query.now in
-    let n = length-map c.args.asking.now.query.now g.S.Symbol.byte in
+    let query = map g.S.Symbol.byte c.args.asking.now.query.notes.now in
+    let n = length-map c.args.asking.now.query.notes.now g.S.Symbol.byte in
     let by = to_z w32 (of_z w32 c.in_ok-by.by) in
     let candidate = carried k mode bytes (note query 1) c.args.b c.in_ok-by.by (search rules) c.in_ok-by.ensures in
     let want = c.want_bytes.new.want in
@@ -50,14 +50,14 @@ returns-then-not-holds_all-clause-best g c =
     let lacking = c.holds_all.ensures.lacking c.if-not-holds_all.true in
     λ ask asked. unheld bytes query k mode c.args.asking.now.limit x.tracks c.args.b x.some_track g.P.Price.pricing g.P.Price.meaning ask asked by candidate want as_long (λ i l. c.want_bytes.ensures.each c.if-not-want_bytes.false i (omega arith)) lacking.0 lacking.1 lacking.2
 
-pub best_under-requires-clause-room : goal.best_under-requires-clause-room
-best_under-requires-clause-room g c =
+pub best_under-requires : goal.best_under-requires
+best_under-requires g c =
     let k = g.S.Symbol.kind in
     let mode = c.args.asking.now.mode in
     let x = c.args.ground.now in
     let bytes = map g.S.Symbol.byte x.tally.cells.now in
-    let query = map g.S.Symbol.byte c.args.asking.now.query.now in
-    let n = length-map c.args.asking.now.query.now g.S.Symbol.byte in
+    let query = map g.S.Symbol.byte c.args.asking.now.query.notes.now in
+    let n = length-map c.args.asking.now.query.notes.now g.S.Symbol.byte in
     let by = to_z w32 (of_z w32 c.in_ok-by.by) in
     let candidate = carried k mode bytes (note query 1) c.args.b c.in_ok-by.by (search rules) c.in_ok-by.ensures in
     let want = c.want_bytes.new.want in
@@ -71,8 +71,8 @@ returns-in_err-best-clause-best g c =
     let mode = c.args.asking.now.mode in
     let x = c.args.ground.now in
     let bytes = map g.S.Symbol.byte x.tally.cells.now in
-    let query = map g.S.Symbol.byte c.args.asking.now.query.now in
-    let n = length-map c.args.asking.now.query.now g.S.Symbol.byte in
+    let query = map g.S.Symbol.byte c.args.asking.now.query.notes.now in
+    let n = length-map c.args.asking.now.query.notes.now g.S.Symbol.byte in
     let by = to_z w32 (of_z w32 c.in_ok-by.by) in
     let candidate = carried k mode bytes (note query 1) c.args.b c.in_ok-by.by (search rules) c.in_ok-by.ensures in
     let want = c.want_bytes.new.want in
@@ -87,8 +87,8 @@ returns-clause-best g c =
     let mode = c.args.asking.now.mode in
     let x = c.args.ground.now in
     let bytes = map g.S.Symbol.byte x.tally.cells.now in
-    let query = map g.S.Symbol.byte c.args.asking.now.query.now in
-    let n = length-map c.args.asking.now.query.now g.S.Symbol.byte in
+    let query = map g.S.Symbol.byte c.args.asking.now.query.notes.now in
+    let n = length-map c.args.asking.now.query.notes.now g.S.Symbol.byte in
     let by = to_z w32 (of_z w32 c.in_ok-by.by) in
     let candidate = carried k mode bytes (note query 1) c.args.b c.in_ok-by.by (search rules) c.in_ok-by.ensures in
     let want = c.want_bytes.new.want in

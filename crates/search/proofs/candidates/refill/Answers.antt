@@ -15,8 +15,8 @@ returns-then-not-want_bytes-clause-settles g c =
     let mode = c.args.asking.now.mode in
     let x = c.args.ground.now in
     let bytes = map g.S.Symbol.byte x.tally.cells.now in
-    let query = map g.S.Symbol.byte c.args.asking.now.query.now in
-    let n = length-map c.args.asking.now.query.now g.S.Symbol.byte in
+    let query = map g.S.Symbol.byte c.args.asking.now.query.notes.now in
+    let n = length-map c.args.asking.now.query.notes.now g.S.Symbol.byte in
     let o = c.args.choice in
     let fit : SFits w32 o.shift = search rules in
     let same = to_z-of_z w32 o.shift fit in
@@ -24,14 +24,14 @@ returns-then-not-want_bytes-clause-settles g c =
     λ ask asked best y a begun.
     all_matched bytes query k mode c.args.asking.now.limit x.tracks g.P.Price.pricing g.met.P.Price.lawful g.P.Price.meaning ask asked o best.stands lacking.0 (omega (arith, lacking.1)) (subst (λ z. (d : ℕ) → k.interval (get_or query lacking.0 rest) d ≡ Some z → ⊥) same lacking.2)
 
-pub fill_rows-row-requires-clause-room : goal.fill_rows-row-requires-clause-room
-fill_rows-row-requires-clause-room g c =
+pub fill_rows-row-requires : goal.fill_rows-row-requires
+fill_rows-row-requires g c =
     let k = g.S.Symbol.kind in
     let mode = c.args.asking.now.mode in
     let x = c.args.ground.now in
     let bytes = map g.S.Symbol.byte x.tally.cells.now in
-    let query = map g.S.Symbol.byte c.args.asking.now.query.now in
-    let n = length-map c.args.asking.now.query.now g.S.Symbol.byte in
+    let query = map g.S.Symbol.byte c.args.asking.now.query.notes.now in
+    let n = length-map c.args.asking.now.query.notes.now g.S.Symbol.byte in
     let o = c.args.choice in
     let fit : SFits w32 o.shift = search rules in
     let same = to_z-of_z w32 o.shift fit in
@@ -49,8 +49,8 @@ price_at-requires g c =
     let mode = c.args.asking.now.mode in
     let x = c.args.ground.now in
     let bytes = map g.S.Symbol.byte x.tally.cells.now in
-    let query = map g.S.Symbol.byte c.args.asking.now.query.now in
-    let n = length-map c.args.asking.now.query.now g.S.Symbol.byte in
+    let query = map g.S.Symbol.byte c.args.asking.now.query.notes.now in
+    let n = length-map c.args.asking.now.query.notes.now g.S.Symbol.byte in
     let o = c.args.choice in
     let fit : SFits w32 o.shift = search rules in
     let same = to_z-of_z w32 o.shift fit in
@@ -59,7 +59,7 @@ price_at-requires g c =
     let each : (i : ℕ) → i < length query → k.interval (get_or query i rest) (get_or want i 0) ≡ Some o.shift = λ i l. c.want_bytes.ensures.each c.if-not-want_bytes.false i (omega arith) ∙ ap Some same in
     let u = c.requires.under in
     let fits = room k g.met.S.Symbol.lawful mode bytes query want u.0 o.shift as_long u.1 each in
-    subst (λ (r : Row). r.offset + count_by (eqb r.byte) bytes ≤ length c.fill_rows-row.new.sheets.prices.now) (sym c.fill_rows-row.ensures.first) (omega (arith, offset_all bytes want 0 (omega (arith, c.requires.ready.some)), fits, c.requires.ready.room.prices, c.fill_rows-row.ensures.as_long.prices))
+    subst (λ (r : Row). r.offset + count_by (eqb r.byte) bytes ≤ length c.fill_rows-row.new.sheets.prices.now) (sym c.fill_rows-row.ensures.first) (omega (arith, offset_all bytes want 0 (omega (arith, c.args.asking.now.query.some, n)), fits, c.requires.ready.room.prices, c.fill_rows-row.ensures.as_long.prices))
 
 none_some : {P : Type 0} (x : Option P) (a : P) → x ≡ None → x ≡ Some a → ⊥
 none_some x a none some = cc
@@ -70,8 +70,8 @@ returns-in_err-price-clause-settles g c =
     let mode = c.args.asking.now.mode in
     let x = c.args.ground.now in
     let bytes = map g.S.Symbol.byte x.tally.cells.now in
-    let query = map g.S.Symbol.byte c.args.asking.now.query.now in
-    let n = length-map c.args.asking.now.query.now g.S.Symbol.byte in
+    let query = map g.S.Symbol.byte c.args.asking.now.query.notes.now in
+    let n = length-map c.args.asking.now.query.notes.now g.S.Symbol.byte in
     let o = c.args.choice in
     let fit : SFits w32 o.shift = search rules in
     let same = to_z-of_z w32 o.shift fit in
@@ -81,7 +81,7 @@ returns-in_err-price-clause-settles g c =
     let sheets = c.fill_rows-row.new.sheets in
     λ ask asked best.
     let h =
-    refilled bytes query k mode c.args.asking.now.limit x.tracks g.P.Price.pricing g.met.P.Price.lawful g.P.Price.meaning ask asked o best.stands want as_long each x.some_track (omega (arith, c.requires.ready.some)) sheets.prices.now sheets.steps.now c.fill_rows-row.ensures.rows c.price_at.result
+    refilled bytes query k mode c.args.asking.now.limit x.tracks g.P.Price.pricing g.met.P.Price.lawful g.P.Price.meaning ask asked o best.stands want as_long each x.some_track (omega (arith, c.args.asking.now.query.some, n)) sheets.prices.now sheets.steps.now c.fill_rows-row.ensures.rows c.price_at.result
     (c.price_at.ensures ∙ ap (λ (r : Row). value bytes r.byte r.offset sheets.prices.now o.place) c.fill_rows-row.ensures.first) in
     absurd (none_some c.price_at.result h.price c.in_err-price.was h.told_is)
 
@@ -91,8 +91,8 @@ returns-clause-settles g c =
     let mode = c.args.asking.now.mode in
     let x = c.args.ground.now in
     let bytes = map g.S.Symbol.byte x.tally.cells.now in
-    let query = map g.S.Symbol.byte c.args.asking.now.query.now in
-    let n = length-map c.args.asking.now.query.now g.S.Symbol.byte in
+    let query = map g.S.Symbol.byte c.args.asking.now.query.notes.now in
+    let n = length-map c.args.asking.now.query.notes.now g.S.Symbol.byte in
     let o = c.args.choice in
     let fit : SFits w32 o.shift = search rules in
     let same = to_z-of_z w32 o.shift fit in
@@ -102,7 +102,7 @@ returns-clause-settles g c =
     let sheets = c.fill_rows-row.new.sheets in
     λ ask asked best.
     let h =
-    refilled bytes query k mode c.args.asking.now.limit x.tracks g.P.Price.pricing g.met.P.Price.lawful g.P.Price.meaning ask asked o best.stands want as_long each x.some_track (omega (arith, c.requires.ready.some)) sheets.prices.now sheets.steps.now c.fill_rows-row.ensures.rows c.price_at.result
+    refilled bytes query k mode c.args.asking.now.limit x.tracks g.P.Price.pricing g.met.P.Price.lawful g.P.Price.meaning ask asked o best.stands want as_long each x.some_track (omega (arith, c.args.asking.now.query.some, n)) sheets.prices.now sheets.steps.now c.fill_rows-row.ensures.rows c.price_at.result
     (c.price_at.ensures ∙ ap (λ (r : Row). value bytes r.byte r.offset sheets.prices.now o.place) c.fill_rows-row.ensures.first) in
     let m = g.P.Price.pricing in
     let meaning = g.P.Price.meaning in

@@ -1,4 +1,4 @@
-use Rattle.std.proofs.Common.{◌≡◌, ◌-◌, refl, sym, ap, ◌∙◌, subst, arith}
+use Rattle.std.proofs.Common.{refl, sym, ap, ◌∙◌, subst, arith}
 use Rattle.price.specs.History.{moved, Told}
 use Rattle.search.specs.Rows.{Hands}
 use Rattle.search.proofs.choosing.hand_over.Goals as goal
@@ -20,7 +20,7 @@ returns g c =
     let a = c.in-Ok.ensures in
     let l = subst (Told g.P.Price.pricing g.P.Price.meaning (moved h c.args.from)) c.in_ok-entry.was (a.tells h holds) in
     let e = c.in_ok-entry.entry in
-    let gap_is : c.saturating_sub-gap.result ≡ e.position - c.args.from - 1 = omega arith in (
+    let gap_is = c.gap_from.ensures in (
       a.holds h holds,
       λ bounded. record {
         entry = e;

@@ -1,5 +1,11 @@
-use Rattle.search.proofs.Asking.{sized}
+use Rattle.std.proofs.Common.{map, ◌∙◌}
+use Rattle.search.specs.Workspace.{workspace}
+use Rattle.search.proofs.Asking.{same_workspace}
 use Rattle.search.proofs.finding.workspace_size.Goals as goal
 
 pub returns : goal.returns
-returns g c = sized g.S.Symbol.kind g.S.Symbol.byte c.args.grid.now c.args.mode c.args.query.now c.symbols.result.now c.symbols.ensures c.workspace_size.result c.workspace_size.ensures
+returns g c =
+    let k = g.S.Symbol.kind in
+    let byte = g.S.Symbol.byte in
+    let mode = c.args.mode in
+    λ limit. (c.in_ok-query.ensures.0, c.workspace.ensures ∙ (λ j. workspace k mode (map byte (c.new.ensures j)) (map byte (c.in_ok-query.ensures.1 j))) ∙ same_workspace k byte c.args.grid.now mode c.args.query.now)

@@ -13,7 +13,7 @@ lone-open-requires g c =
     let bytes = map g.S.Symbol.byte x.tally.cells.now in
     let n = length-map x.tally.cells.now g.S.Symbol.byte in
     let t = c.requires.leading in
-    let s = inside g.P.Price.pricing g.P.Price.meaning bytes x.tracks c.args.want.now c.args.steps.now c.args.start t.0 t.1 t.2 t.3 x.some_track (omega (arith, x.tally.few)) t.4 0 c.args.start t.3 t.4.stands in
+    let s = inside g.P.Price.pricing g.P.Price.meaning bytes x.tracks c.args.want.bytes.now c.args.steps.now c.args.start t.0 t.1 t.2 t.3 x.some_track (omega (arith, x.tally.few)) t.4 0 c.args.start t.3 t.4.stands in
     omega (arith, s.0, x.tally.few)
 
 pub loop-byte-init : goal.loop-byte-init
@@ -23,7 +23,7 @@ loop-byte-init g c =
     let x = c.args.ground.now in
     let bytes = map g.S.Symbol.byte x.tally.cells.now in
     let n = length-map x.tally.cells.now g.S.Symbol.byte in
-    (c.requires.some_note, omega arith, c.first_offset-offset.ensures, λ ask d prices a trail. subst (λ o. Following m meaning bytes x.tracks c.args.want.now c.args.steps.now c.args.start ask d prices a 0 c.args.start 0 o c.args.list.now c.args.list.now) (sym c.lone-open.ensures) (following_none m meaning bytes x.tracks c.args.want.now c.args.steps.now c.args.start ask d prices a x.some_track (omega (arith, x.tally.few)) trail c.args.list.now c.requires.some_note))
+    (c.args.want.some, omega arith, c.first_offset-offset.ensures, λ ask d prices a trail. subst (λ o. Following m meaning bytes x.tracks c.args.want.bytes.now c.args.steps.now c.args.start ask d prices a 0 c.args.start 0 o c.args.list.now c.args.list.now) (sym c.lone-open.ensures) (following_none m meaning bytes x.tracks c.args.want.bytes.now c.args.steps.now c.args.start ask d prices a x.some_track (omega (arith, x.tally.few)) trail c.args.list.now c.args.want.some))
 
 -- the byte of the next note
 turn : (want : List ℕ) (k : ℕ) → get_or (take (length want - 1) (drop 1 want)) k 0 ≡ get_or want (k + 1) 0
@@ -65,7 +65,7 @@ overflow_add-step g c =
     let k = c.loop-byte.byte-index in
     let t = c.requires.leading in
     let at = stays (c.loop-byte.invariant.3 t.0 t.1 t.2 t.3 t.4) in
-    omega (arith, c.well_formed, step_in bytes x.after.now x.ranked c.args.want.now c.args.steps.now k c.loop-byte.place c.loop-byte.offset c.loop-byte.invariant.0 c.requires.room_steps c.loop-byte.invariant.2 at.0 at.1)
+    omega (arith, c.well_formed, step_in bytes x.after.now x.ranked c.args.want.bytes.now c.args.steps.now k c.loop-byte.place c.loop-byte.offset c.loop-byte.invariant.0 c.requires.room_steps c.loop-byte.invariant.2 at.0 at.1)
 
 pub offset_bounds-steps-offset : goal.offset_bounds-steps-offset
 offset_bounds-steps-offset g c =
@@ -75,7 +75,7 @@ offset_bounds-steps-offset g c =
     let k = c.loop-byte.byte-index in
     let t = c.requires.leading in
     let at = stays (c.loop-byte.invariant.3 t.0 t.1 t.2 t.3 t.4) in
-    omega (arith, c.well_formed, step_in bytes x.after.now x.ranked c.args.want.now c.args.steps.now k c.loop-byte.place c.loop-byte.offset c.loop-byte.invariant.0 c.requires.room_steps c.loop-byte.invariant.2 at.0 at.1)
+    omega (arith, c.well_formed, step_in bytes x.after.now x.ranked c.args.want.bytes.now c.args.steps.now k c.loop-byte.place c.loop-byte.offset c.loop-byte.invariant.0 c.requires.room_steps c.loop-byte.invariant.2 at.0 at.1)
 
 pub bounds-steps-offset : goal.bounds-steps-offset
 bounds-steps-offset g c =
@@ -85,10 +85,10 @@ bounds-steps-offset g c =
     let k = c.loop-byte.byte-index in
     let t = c.requires.leading in
     let at = stays (c.loop-byte.invariant.3 t.0 t.1 t.2 t.3 t.4) in
-    step_in bytes x.after.now x.ranked c.args.want.now c.args.steps.now k c.loop-byte.place c.loop-byte.offset c.loop-byte.invariant.0 c.requires.room_steps c.loop-byte.invariant.2 at.0 at.1
+    step_in bytes x.after.now x.ranked c.args.want.bytes.now c.args.steps.now k c.loop-byte.place c.loop-byte.offset c.loop-byte.invariant.0 c.requires.room_steps c.loop-byte.invariant.2 at.0 at.1
 
 pub overflow_sub-offset : goal.overflow_sub-offset
-overflow_sub-offset g c = omega (arith, offset_lower (map g.S.Symbol.byte c.args.ground.now.tally.cells.now) c.args.want.now c.loop-byte.byte-index c.loop-byte.offset c.count-offset.result c.loop-byte-test.true c.loop-byte.invariant.2 c.count-offset.ensures.is)
+overflow_sub-offset g c = omega (arith, offset_lower (map g.S.Symbol.byte c.args.ground.now.tally.cells.now) c.args.want.bytes.now c.loop-byte.byte-index c.loop-byte.offset c.count-offset.result c.loop-byte-test.true c.loop-byte.invariant.2 c.count-offset.ensures.is)
 
 pub overflow_add-place : goal.overflow_add-place
 overflow_add-place g c =
@@ -119,8 +119,8 @@ lone-open-requires-else-step g c =
     let t = c.requires.leading in
     let at = stays (c.loop-byte.invariant.3 t.0 t.1 t.2 t.3 t.4) in
     let s = get_or c.args.steps.now (c.loop-byte.offset + get_or x.after.now c.loop-byte.place 0) 0 in
-    let is = step_is bytes x.after.now x.ranked c.args.want.now c.args.steps.now k c.loop-byte.place c.loop-byte.offset c.loop-byte.invariant.0 c.requires.room_steps c.loop-byte.invariant.2 at.0 at.1 in
-    let within = over_in g.P.Price.pricing g.P.Price.meaning bytes x.tracks c.args.want.now c.args.steps.now c.args.start t.0 t.1 t.2 t.3 x.some_track (omega (arith, x.tally.few)) t.4 k c.loop-byte.place c.loop-byte.count c.loop-byte.open c.args.list.now c.loop-byte.list (c.loop-byte.invariant.3 t.0 t.1 t.2 t.3 t.4) s (more_in c.args.want.now k c.loop-byte-test.true) is c.if-step.false in
+    let is = step_is bytes x.after.now x.ranked c.args.want.bytes.now c.args.steps.now k c.loop-byte.place c.loop-byte.offset c.loop-byte.invariant.0 c.requires.room_steps c.loop-byte.invariant.2 at.0 at.1 in
+    let within = over_in g.P.Price.pricing g.P.Price.meaning bytes x.tracks c.args.want.bytes.now c.args.steps.now c.args.start t.0 t.1 t.2 t.3 x.some_track (omega (arith, x.tally.few)) t.4 k c.loop-byte.place c.loop-byte.count c.loop-byte.open c.args.list.now c.loop-byte.list (c.loop-byte.invariant.3 t.0 t.1 t.2 t.3 t.4) s (more_in c.args.want.bytes.now k c.loop-byte-test.true) is c.if-step.false in
     omega (arith, within, x.tally.few)
 
 pub loop-byte-preserved : goal.loop-byte-preserved
@@ -129,7 +129,7 @@ loop-byte-preserved g c =
     let meaning = g.P.Price.meaning in
     let x = c.args.ground.now in
     let bytes = map g.S.Symbol.byte x.tally.cells.now in
-    let want = c.args.want.now in
+    let want = c.args.want.bytes.now in
     let steps = c.args.steps.now in
     let n = length-map x.tally.cells.now g.S.Symbol.byte in
     let k = c.loop-byte.byte-index in
@@ -164,6 +164,6 @@ returns g c =
     let x = c.args.ground.now in
     let bytes = map g.S.Symbol.byte x.tally.cells.now in
     let n = length-map x.tally.cells.now g.S.Symbol.byte in
-    let want = c.args.want.now in
+    let want = c.args.want.bytes.now in
     let k = c.loop-byte.byte-index in
     λ ask d prices a trail. following_ends m meaning bytes x.tracks want c.args.steps.now c.args.start ask d prices a x.some_track (omega (arith, x.tally.few)) trail k c.loop-byte.place c.loop-byte.count c.loop-byte.open c.args.list.now c.loop-byte.list (c.loop-byte.invariant.3 ask d prices a trail) (omega (arith, c.loop-byte.invariant.0, c.loop-byte-test.false, ap length (take_all (length want - 1) (drop 1 want) (omega (arith, length-drop 1 want))), length-drop 1 want)) (omega (arith, c.loop-byte.invariant.0, c.loop-byte.invariant.1, c.requires.room_list))

@@ -10,8 +10,8 @@ use Rattle.search.proofs.rows.fill_rows.Goals as goal
 
 pub fill_last-requires : goal.fill_last-requires
 fill_last-requires g c =
-    let want = c.args.want.now in
-    omega (arith, offset_all (map g.S.Symbol.byte c.args.ground.now.tally.cells.now) want (length want - 1) (omega (arith, c.requires.some_note)), c.requires.room.prices)
+    let want = c.args.want.bytes.now in
+    omega (arith, offset_all (map g.S.Symbol.byte c.args.ground.now.tally.cells.now) want (length want - 1) (omega (arith, c.args.want.some)), c.requires.prices)
 
 -- one note further to the front
 module _ (want before after : List ℕ) (b : ℕ) (front : before ≡ take (length before) want) (step : before ≡ after ++ b ∷ []) where
@@ -34,16 +34,16 @@ loop-byte-init g c =
     let meaning = g.P.Price.meaning in
     let x = c.args.ground.now in
     let bytes = map g.S.Symbol.byte x.tally.cells.now in
-    let want = c.args.want.now in
+    let want = c.args.want.bytes.now in
     let k = length want - 1 in
     let b = get_or want k 0 in
     let rest = c.into_iter-byte-iterator.result.iter.rest.now in
     let rest-is : rest ≡ take k want = cc in
     let long : length rest ≡ k = ap length rest-is ∙ length-take-le k want (omega arith) in
-    let end : k + 1 ≡ length want = omega (arith, c.requires.some_note) in
+    let end : k + 1 ≡ length want = omega (arith, c.args.want.some) in
     let is : record { byte = b; offset = 0 } ≡ standing bytes want k = λ j. record { byte = b; offset = sym (offset_last bytes want k end) j } in (
       rest-is ∙ ap (λ n. take n want) (sym long),
-      omega (arith, c.requires.some_note, long),
+      omega (arith, c.args.want.some, long),
       is ∙ ap (standing bytes want) (sym long),
       record { prices = refl; steps = refl; window = refl },
       subst (RowsRight m meaning bytes x.tracks c.args.limit want c.fill_last.new.prices c.args.sheets.now.steps.now) (sym long)
@@ -56,13 +56,13 @@ row_before-row-requires g c =
     let bytes = map g.S.Symbol.byte c.args.ground.now.tally.cells.now in
     let k = length c.loop-byte.byte-iterator.iter.rest.now in
     subst (λ (r : Row). r.offset + count_by (eqb r.byte) bytes < 18446744073709551616) (sym c.loop-byte.invariant.2)
-    (omega (arith, c.well_formed, offset_all bytes c.args.want.now k c.loop-byte.invariant.1, c.requires.room.steps))
+    (omega (arith, c.well_formed, offset_all bytes c.args.want.bytes.now k c.loop-byte.invariant.1, c.requires.steps))
 
 pub fill_row-requires-clause-room : goal.fill_row-requires-clause-room
 fill_row-requires-clause-room g c =
     let x = c.args.ground.now in
     let bytes = map g.S.Symbol.byte x.tally.cells.now in
-    let want = c.args.want.now in
+    let want = c.args.want.bytes.now in
     let before = c.loop-byte.byte-iterator.iter.rest.now in
     let after = c.next.new.self.iter.rest.now in
     let k = length after in
@@ -73,7 +73,7 @@ fill_row-requires-clause-room g c =
     let need = sum_by (λ b. count_by (eqb b) bytes) want in
     let a = subst (λ i. i) (λ j. Asks bytes need (sym row_is j) (sym next-is j)) (asked bytes want k more) in
     let long = c.loop-byte.invariant.3 in
-    let room = c.requires.room in
+    let room = c.requires in
     record { prices = omega (arith, a.1, room.prices, long.prices, c.fill_last.auto.prices); steps = omega (arith, a.1, room.steps, long.steps); window = omega (arith, a.1, room.window, long.window) }
 
 pub loop-byte-preserved : goal.loop-byte-preserved
@@ -82,7 +82,7 @@ loop-byte-preserved g c =
     let meaning = g.P.Price.meaning in
     let x = c.args.ground.now in
     let bytes = map g.S.Symbol.byte x.tally.cells.now in
-    let want = c.args.want.now in
+    let want = c.args.want.bytes.now in
     let before = c.loop-byte.byte-iterator.iter.rest.now in
     let after = c.next.new.self.iter.rest.now in
     let k = length after in
@@ -111,6 +111,6 @@ returns-clause-rows g c =
     let meaning = g.P.Price.meaning in
     let x = c.args.ground.now in
     let bytes = map g.S.Symbol.byte x.tally.cells.now in
-    let want = c.args.want.now in
+    let want = c.args.want.bytes.now in
     let done = c.in-None.ensures.steps.0 in
     subst (RowsRight m meaning bytes x.tracks c.args.limit want c.loop-byte.sheets.prices.now c.loop-byte.sheets.steps.now) done c.loop-byte.invariant.4

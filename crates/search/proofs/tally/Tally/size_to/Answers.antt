@@ -35,9 +35,9 @@ pub returns-in-Some : goal.returns-in-Some
 returns-in-Some g c =
     let k = g.S.Symbol.kind in
     let cells = map g.S.Symbol.byte c.args.self.now.cells.now in
-    let query = map g.S.Symbol.byte c.args.query.now in
+    let query = map g.S.Symbol.byte c.args.query.now.notes.now in
     let fit : SFits w32 c.in-Some.by = search rules in
     c.triples.ensures ∙ ap (λ z. triples k z cells query) (to_z-of_z w32 c.in-Some.by fit) ∙ size_under k c.args.mode cells query c.args.b c.in-Some.by c.in-Some.ensures
 
 pub returns-in-None : goal.returns-in-None
-returns-in-None g c = size_without g.S.Symbol.kind c.args.mode (map g.S.Symbol.byte c.args.self.now.cells.now) (map g.S.Symbol.byte c.args.query.now) c.args.b c.in-None.ensures
+returns-in-None g c = size_without g.S.Symbol.kind c.args.mode (map g.S.Symbol.byte c.args.self.now.cells.now) (map g.S.Symbol.byte c.args.query.now.notes.now) c.args.b c.in-None.ensures

@@ -10,7 +10,7 @@ pub loop-s-preserved : goal.loop-s-preserved
 loop-s-preserved g c =
     let byte = g.S.Symbol.byte in
     let matched = matching g.S.Symbol.kind (to_z w32 (of_z w32 c.args.by)) (map byte c.args.self.now.cells.now) in
-    let xs = c.args.query.now in
+    let xs = c.args.query.now.notes.now in
     let i = c.loop-s.s-index in
     let n = length-map xs byte in
     let one : c.matching-sum.result ≡ matched (get_or (map byte xs) i 0) = c.matching-sum.ensures.is ∙ ap matched (sym (byte_at byte xs i c.s-item.result 0 c.loop-s-test.true c.s-item.is)) in (
@@ -21,6 +21,6 @@ loop-s-preserved g c =
 pub returns : goal.returns
 returns g c =
     let byte = g.S.Symbol.byte in
-    let n = length-map c.args.query.now byte in
+    let n = length-map c.args.query.now.notes.now byte in
     let e = to_z-of_z w32 c.args.by c.ranges.by in
-    c.loop-s.invariant.1 ∙ (λ j. triples g.S.Symbol.kind (e j) (map byte c.args.self.now.cells.now) (take_all c.loop-s.s-index (map byte c.args.query.now) (omega arith) j))
+    c.loop-s.invariant.1 ∙ (λ j. triples g.S.Symbol.kind (e j) (map byte c.args.self.now.cells.now) (take_all c.loop-s.s-index (map byte c.args.query.now.notes.now) (omega arith) j))
