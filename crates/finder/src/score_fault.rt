@@ -1,10 +1,13 @@
 //! Why a call on a score is turned away. A book's fault passes up whole, and a block's within it.
 
-ghost use Rattle.std.specs.Prelude.{◌≡◌};
+ghost use Rattle.std.specs.Prelude.{◌≡◌, Some};
+ghost use Rattle.book.specs.Describing.{refused};
 ghost use Rattle.finder.specs.ScoreRules.{score_told};
 ghost use Rattle.finder.specs.declared.score_fault.ScoreFault.TheVariants.{OfBook};
 
 use book::{BookFault, Layer, Refusal};
+use std::error::Error;
+use std::fmt;
 
 #[derive(Clone, Copy, Debug, PartialEq, Eq)]
 pub enum ScoreFault {
@@ -52,3 +55,13 @@ impl ScoreFault {
         }
     }
 }
+
+impl fmt::Display for ScoreFault {
+    ghost output = { λ f. Some (refused (score_told f)) };
+
+    fn fmt<W: fmt::Write>(&self, f: &mut fmt::Formatter<W>) -> fmt::Result {
+        write!(f, "{}", self.refusal())
+    }
+}
+
+impl Error for ScoreFault {}
