@@ -29,18 +29,12 @@ fn is_answered<P: Price + PartialEq>(
     query: &[Pitch],
     told: &Told<P>,
 ) -> Result<bool, AllocError> {
-    let blank = Piece {
-        first: 0,
-        len: 0,
-        track: 0,
-        column: 0,
-    };
     let nowhere = Entry {
         position: 0,
         place: 0,
         price: P::empty(),
     };
-    let mut list = vec![in heap; blank; ROOM]?;
+    let mut list = vec![in heap; Piece::default(); ROOM]?;
     let mut prices = vec![in heap; Option::<P>::None; ROOM]?;
     let mut window = vec![in heap; nowhere; ROOM]?;
     let mut steps = vec![in heap; 0u32; ROOM]?;

@@ -151,7 +151,7 @@ impl Model {
 
     // A fresh score of the columns held.
     pub(super) fn score(&self, heap: Global) -> Result<Option<Score<Pitch>>, AllocError> {
-        let mut score = Score::new(TRACKS, vec![in heap; Pitch::rest(); 8]?);
+        let mut score = Score::new(TRACKS, vec![in heap; Pitch::rest(); TRACKS * CAPACITY]?);
         for column in self.symbols.chunks(TRACKS) {
             if score.append(column).is_err() {
                 return Ok(None);

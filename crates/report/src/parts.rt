@@ -27,7 +27,7 @@ pub(crate) fn length_refusal(bytes: usize) -> Refusal
 }
 
 // The price kind of a slip, as the first or the second of two.
-// Stays: both types are of other crates, so `From` can't be implemented here.
+// Stays: `From` would make one of the two crates know the other, since neither type is of this crate.
 pub(crate) fn kind_at(price: slip::PriceKind) -> finder::PriceKind
     ensures { result ≡ kind_at price }
 {
