@@ -17,7 +17,6 @@ pub(super) struct Span {
     position: u32,
     last: u32,
     limit: u32,
-    ghost ordered: { front ≤ back },
 }
 
 impl Span {
@@ -50,23 +49,29 @@ impl Span {
         self.position < from
     }
 
-    // The part of the memory that is in use.
+    // The part of the memory that is in use, as far as it lies in the memory.
+    // Stays: no ghost fields say that all of it does. Beside the `&mut` of a window they would keep
+    // callers from putting it into an `Option` or a tuple, whose borrows are then not covered.
     fn kept<P>(self, entries: &[Entry<P>]) -> &[Entry<P>]
-        requires { self.back ≤ length entries.now }
-        ensures { result.now ≡ slice_range entries.now self.front self.back }
+        ensures part { self.front ≤ self.back → self.back ≤ length entries.now →
+            result.now ≡ slice_range entries.now self.front self.back }
+        ensures few { length result.now ≤ self.back }
+        ensures ends { 0 < length result.now → self.front + length result.now ≤ length entries.now }
     {
-        &entries[self.front..self.back]
+        let back = self.back.min(entries.len());
+        let front = self.front.min(back);
+        &entries[front..back]
     }
 
     // Puts an entry in the place of those that are no cheaper.
     pub(super) fn keep<P: Price>(self, entries: &mut [Entry<P>], from: u32, near: Entry<P>) -> Span
         requires { self.back < length entries.old }
-        ensures inside { result.back ≤ length entries.new }
-        ensures spans { (h : History P) → Spans P.pricing P.meaning entries.old self h →
+        ensures { (h : History P) → Spans P.pricing P.meaning entries.old self h →
             Accepts h from near →
             Spans P.pricing P.meaning entries.new result (put_in h from near) }
     {
-        let place = self.front + cheaper(self.kept(entries), from, near);
+        let kept = self.kept(entries);
+        let place = self.back - (kept.len() - cheaper(kept, from, near));
         entries[place] = near;
         Span {
             front: self.front,
@@ -84,9 +89,7 @@ impl Span {
         entries: &mut [Entry<P>],
         from: u32,
     ) -> (Span, Option<Entry<P>>)
-        requires { self.back ≤ length entries.old }
         ensures same { entries.new ≡ entries.old }
-        ensures inside { result.0.back ≤ length entries.old }
         ensures tells { (h : History P) → from ≤ h.position →
             Spans P.pricing P.meaning entries.old self h →
             Spans P.pricing P.meaning entries.old result.0 (moved h from)

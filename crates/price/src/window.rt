@@ -1,6 +1,6 @@
 //! The sliding window.
 
-ghost use Rattle.std.specs.Prelude.{length, MatchResult, ◌≤◌};
+ghost use Rattle.std.specs.Prelude.{length, MatchResult};
 
 use super::span::Span;
 use super::{Entry, Price};
@@ -28,7 +28,6 @@ impl Error for Passed {}
 pub struct Window<'a, P> {
     entries: &'a mut [Entry<P>],
     span: Span,
-    ghost inside: { span.back ≤ length entries.now },
 }
 
 impl<'a, P: Price> Window<'a, P> {

@@ -28,6 +28,6 @@ returns g c =
           λ h holds.
           record {
             memory = c.keep-self.auto.entries ∙ holds.memory;
-            spans = c.keep-self.ensures.spans h holds.spans (accepted p meaning w.entries.now w.span h holds.spans c.args.from c.args.entry (length w.entries.now) takes);
+            spans = c.keep-self.ensures h holds.spans (accepted p meaning w.entries.now w.span h holds.spans c.args.from c.args.entry (length w.entries.now) takes);
           };
     }
