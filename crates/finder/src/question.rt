@@ -21,6 +21,7 @@ impl<S: Symbol> Score<S> {
 
     /// Where a query can be found at the least price, its pieces in the front of the list. Prices,
     /// window and steps are sheets to work on. A refusal leaves them and the list as they were.
+    // Stays: the list and the sheets are lent one by one, as the rules name them.
     pub fn find<P: Price>(
         &self,
         terms: &Terms,

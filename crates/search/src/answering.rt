@@ -43,17 +43,19 @@ fn answer_from<S: Symbol, P: Price>(
     })
 }
 
-// The answer to a question about the symbols of a grid, by tables over their places.
-pub(crate) fn answer<S: Symbol, P: Price>(
-    grid: &Grid<'_, S>,
+// The answer to a question about the symbols of a grid, which are counted in a tally, by tables over
+// their places.
+pub(crate) fn answer<'a, S: Symbol, P: Price>(
+    grid: &'a Grid<'_, S>,
+    tally: Tally<'a, S>,
     asking: &Asking<S>,
     list: &mut [Piece],
     sheets: &mut Sheets<P>,
 ) -> Answer<P>
-    requires { Granted (map S.byte grid.now.symbols.now) grid.now.tracks S.kind asking.now.mode asking.now.limit (map S.byte asking.now.query.notes.now) (length list.old) sheets.old }
+    requires counted { tally.cells.now ≡ grid.now.symbols.now }
+    requires granted { Granted (map S.byte grid.now.symbols.now) grid.now.tracks S.kind asking.now.mode asking.now.limit (map S.byte asking.now.query.notes.now) (length list.old) sheets.old }
     ensures { (ask : Question) → Asked ask (map S.byte grid.now.symbols.now) grid.now.tracks S.kind asking.now.mode asking.now.limit (map S.byte asking.now.query.notes.now) → Answers ask P.pricing (meant P.meaning result) list.old list.new }
 {
-    let tally = Tally::new(grid);
     let mut previous = [0u32; 65536];
     let mut after = [0u16; 65536];
     let last = link_places(&tally, &mut previous);

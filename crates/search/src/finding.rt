@@ -1,6 +1,7 @@
 //! Questions about the symbols of a score: what workspace they ask for, and their answers.
 
 ghost use Rattle.std.specs.Prelude.{◌≡◌, ℕ, map, length, Some, None, MatchResult};
+ghost use Rattle.book.specs.declared.grid.Grid.{Grid as Held};
 ghost use Rattle.search.specs.Faults.{question_told};
 ghost use Rattle.search.specs.Queries.{list_refusal};
 ghost use Rattle.search.specs.Questions.{grid_question, question_refusal, Sized, Sought};
@@ -9,7 +10,7 @@ use super::answering::answer;
 use super::fault::{ListFault, QueryFault, QuestionFault};
 use super::query::{check_list, check_query};
 use super::question::Asking;
-use super::sheets::Sheets;
+use super::sheets::{Lengths, Sheets};
 use super::tally::Tally;
 use book::Grid;
 use notation::{Mode, Symbol};
@@ -28,17 +29,17 @@ pub fn workspace_size<S: Symbol>(
     Ok(Tally::new(grid).workspace(mode, &query))
 }
 
-// Checks each of the sheets against the workspace of a question whose query and list are checked.
-// No rule speaks of the limit.
-fn check_sheets<S: Symbol, P>(
-    grid: &Grid<'_, S>,
+// Checks the length of each sheet against the workspace of a question whose query and list are
+// checked, by a tally of the score. No rule speaks of the limit.
+fn check_sheets<S: Symbol>(
+    tally: &Tally<S>,
     asking: &Asking<S>,
-    sheets: &Sheets<P>,
+    lengths: Lengths,
 ) -> Result<(), QuestionFault>
-    ensures { (list : ℕ) → list_refusal (map S.byte asking.now.query.notes.now) list ≡ None → MatchResult result (λ _. question_refusal (grid_question S.kind S.byte grid.now 0 asking.now.mode asking.now.query.notes.now) list (length sheets.now.prices.now) (length sheets.now.window.now) (length sheets.now.steps.now) ≡ None) (λ f. question_refusal (grid_question S.kind S.byte grid.now 0 asking.now.mode asking.now.query.notes.now) list (length sheets.now.prices.now) (length sheets.now.window.now) (length sheets.now.steps.now) ≡ Some (question_told f)) }
+    ensures { (held : Held S) → tally.now.cells.now ≡ held.symbols.now → (list : ℕ) → list_refusal (map S.byte asking.now.query.notes.now) list ≡ None → MatchResult result (λ _. question_refusal (grid_question S.kind S.byte held 0 asking.now.mode asking.now.query.notes.now) list lengths.prices lengths.window lengths.steps ≡ None) (λ f. question_refusal (grid_question S.kind S.byte held 0 asking.now.mode asking.now.query.notes.now) list lengths.prices lengths.window lengths.steps ≡ Some (question_told f)) }
 {
-    let size = Tally::new(grid).workspace(asking.mode, &asking.query);
-    if !sheets.hold(size) {
+    let size = tally.workspace(asking.mode, &asking.query);
+    if !lengths.hold(size) {
         return Err(QuestionFault::ShortSheet { size });
     }
     Ok(())
@@ -46,6 +47,7 @@ fn check_sheets<S: Symbol, P>(
 
 /// Where a query can be found at the least price, its pieces in the front of the list. Prices,
 /// window and steps are sheets to work on. A refusal leaves them and the list as they were.
+// Stays: eight parameters, since the rules name what is handed over, one by one.
 pub fn find<S: Symbol, P: Price>(
     grid: &Grid<'_, S>,
     limit: u32,
@@ -60,11 +62,17 @@ pub fn find<S: Symbol, P: Price>(
 {
     let query = check_list(query, list.len())?;
     let asking = Asking { mode, query, limit };
+    let tally = Tally::new(grid);
+    let lengths = Lengths {
+        prices: prices.len(),
+        steps: steps.len(),
+        window: window.len(),
+    };
+    check_sheets(&tally, &asking, lengths)?;
     let mut sheets = Sheets {
         prices,
         steps,
         window,
     };
-    check_sheets(grid, &asking, &sheets)?;
-    Ok(answer(grid, &asking, list, &mut sheets))
+    Ok(answer(grid, tally, &asking, list, &mut sheets))
 }

@@ -1,6 +1,6 @@
 //! The sheets that a search works on.
 
-ghost use Rattle.std.specs.Prelude.{◌≡◌, ◌&&◌, length, nat_le};
+ghost use Rattle.std.specs.Prelude.{◌≡◌, ◌&&◌, nat_le};
 
 use price::Entry;
 
@@ -13,11 +13,19 @@ pub(crate) struct Sheets<'a, P> {
     pub(crate) window: &'a mut [Entry<P>],
 }
 
-impl<P> Sheets<'_, P> {
+/// How long each of the three sheets is.
+#[derive(Clone, Copy)]
+pub(crate) struct Lengths {
+    pub(crate) prices: usize,
+    pub(crate) steps: usize,
+    pub(crate) window: usize,
+}
+
+impl Lengths {
     /// Whether each of them has room for a workspace.
-    pub(crate) fn hold(&self, size: usize) -> bool
-        ensures { result ≡ (nat_le size (length self.now.prices.now) && nat_le size (length self.now.window.now) && nat_le size (length self.now.steps.now)) }
+    pub(crate) fn hold(self, size: usize) -> bool
+        ensures { result ≡ (nat_le size self.prices && nat_le size self.window && nat_le size self.steps) }
     {
-        size <= self.prices.len() && size <= self.window.len() && size <= self.steps.len()
+        size <= self.prices && size <= self.window && size <= self.steps
     }
 }
