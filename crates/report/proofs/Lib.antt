@@ -1,3 +1,4 @@
 pub mod Fronts
 pub mod Calls
 pub mod Inputs
+pub mod Signs

@@ -52,6 +52,7 @@ fn silence_of(pieces: &[Piece]) -> u128
 }
 
 // The first line on what is found.
+#[tactic(auto, using(crate::proofs::Signs::signs))]
 fn first_line(heap: Global, count: usize, silence: u128, shift: i32) -> Result<String, AllocError>
     ensures { IfOk result (λ t. string_bytes t ≡ first_line count silence shift) }
 {
